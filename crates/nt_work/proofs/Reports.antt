@@ -1,8 +1,7 @@
 -- The reports of all items are the audit.
 use Rattle.std.proofs.Common.{◌≡◌, ◌∙◌, ℕ, zero, suc, ◌+◌, ◌<◌, ◌≤◌, List, [], ◌∷◌, ◌++◌, length, map, get_or, take, reverse, refl, sym, ap, subst, arith}
 use Rattle.std.proofs.Common.{Option, Some, None}
-use Rattle.std.proofs.Math.Seq.{take-length}
-use Rattle.std.proofs.lemmas.List.{length-append, length-reverse, map-append, take_more}
+use Rattle.std.proofs.lemmas.List.{length-append, length-reverse}
 use mathlib.Core.Logic.{dite}
 use native.Mathlib.Decide.{ℕ_discrete}
 use Rattle.nt_event.specs.declared.events.Event.{Event}
@@ -81,16 +80,3 @@ all_reports events counts xs done c x d =
     d ∙ (λ i. map (reported (c i)) (x i))
     ∙ each_report events (items_of (reverse events))
     (subst (λ (n : ℕ). AllBelow n (items_of (reverse events))) (length-reverse events) (items_below (reverse events)))
-
-pub same_more : (counts : List ℕ) (done : List Audited) (xs : List Item) (k : ℕ) (d : Audited) (x : Item) → k < length done → k < length xs →
-    take k done ≡ map (reported counts) (take k xs) → get_or done k d ≡ reported counts (get_or xs k x) →
-    take (k + 1) done ≡ map (reported counts) (take (k + 1) xs)
-same_more counts done xs k d x ld lx before here =
-    take_more done k d ld ∙ (λ i. before i ++ here i ∷ []) ∙ sym (map-append (reported counts) (take k xs) (get_or xs k x ∷ []))
-    ∙ ap (map (reported counts)) (sym (take_more xs k x lx))
-
-pub same_all : (counts : List ℕ) (done : List Audited) (xs : List Item) (k : ℕ) → k ≡ length xs → length done ≡ length xs →
-    take k done ≡ map (reported counts) (take k xs) → done ≡ map (reported counts) xs
-same_all counts done xs k all many so =
-    sym (take-length done) ∙ ap (λ (n : ℕ). take n done) (many ∙ sym all) ∙ so ∙ ap (λ (n : ℕ). map (reported counts) (take n xs)) all
-    ∙ ap (map (reported counts)) (take-length xs)

@@ -1,6 +1,6 @@
 -- What an event does to the inserts: it inserts an object, removes one, uses up one insert, or does nothing to them.
 use Rattle.std.specs.Prelude.{Bool, List, None, Option, Some, [], false, filter, get_or, if◌then◌else◌, map, not, ℕ}
-use Rattle.std.specs.Prelude.{◌&&◌, ◌++◌, ◌==◌, ◌∷◌}
+use Rattle.std.specs.Prelude.{◌&&◌, ◌++◌, ◌<◌, ◌==◌, ◌∷◌}
 use Rattle.nt_event.specs.declared.commands.Reply.{Reply}
 use Rattle.nt_event.specs.declared.events.Begun.{Begun}
 use Rattle.nt_event.specs.declared.events.Begun.TheVariants as begun
@@ -95,3 +95,14 @@ added_by Nothing n = []
 -- what the event of this number leaves of the pending inserts
 abbrev pub after_change : Change → ℕ → List Inserted → List Inserted
 after_change c n xs = filter (λ x. not (uses c x.thing x.number)) xs ++ added_by c n
+
+-- ---- numbers
+
+abbrev pub AreOver : ℕ → List Insert → Type 0
+AreOver n [] = Unit {0}
+AreOver n (x ∷ xs) = (n < x.number) × AreOver n xs
+
+-- their numbers rise, and are below this one
+abbrev pub RiseBelow : ℕ → List Insert → Type 0
+RiseBelow n [] = Unit {0}
+RiseBelow n (x ∷ xs) = (x.number < n) × AreOver x.number xs × RiseBelow n xs

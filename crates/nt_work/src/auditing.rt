@@ -1,9 +1,10 @@
 //! The audit of a history by workers on threads.
-ghost use Rattle.std.specs.Prelude.{◌≡◌, ◌≤◌, IfOk, IsTrue, length, map, reverse};
+ghost use Rattle.std.specs.Prelude.{◌≡◌, ◌+◌, ◌<◌, ◌≤◌, [], All, IfOk, OnOk, length, map, reverse};
 ghost use Rattle.nt_event.specs.declared.limits.TheConstants.{EVENTS};
 ghost use Rattle.nt_work.specs.Audits.{audit_of, reported, waitings};
 ghost use Rattle.nt_work.specs.Queue.{IsOf, pass_view};
-ghost use Rattle.nt_work.specs.Rule.{whole};
+ghost use Rattle.nt_work.specs.Rule.{all_parts, whole};
+ghost use Rattle.nt_work.specs.Workers.{HasMet, HasPut, HasWorked, HaveWorked, own_items};
 ghost use Rattle.nt_work.specs.declared.auditing.TheConstants.{WORKERS};
 ghost use Rattle.nt_work.specs.declared.queue.TheConstants.{ROOM};
 
@@ -22,37 +23,102 @@ use std::thread::Threads;
 /// Workers at most.
 pub const WORKERS: u8 = 16;
 
-/// So many workers, each with a part of the pass.
-fn team<'q>(
+/// So many workers, each with a part of the pass. Each has room for an equal share of as many items
+/// as there are events, so that it seldom takes memory while it works.
+fn team(
     alloc: Global,
-    queue: &'q WorkQueue,
+    queue: &WorkQueue,
+    counts: &[u32],
     pass: &mut WorkPass,
     workers: u8,
-) -> Result<Vec<Worker<'q>>, AllocError>
+) -> Result<Vec<Worker>, AllocError>
     requires pass { (IsOf queue.now pass.old) × (pass_view pass.old ≡ whole) }
     requires workers { workers ≤ WORKERS }
-    ensures { IsOf queue.now pass.new }
+    ensures pass { OnOk result (IsOf queue.now pass.new) }
+    ensures parts { OnOk result ((pass_view pass.new).parts + workers ≡ all_parts) }
+    ensures none { OnOk result (((pass_view pass.new).hand.taken ≡ []) ×
+        ((pass_view pass.new).met ≡ [])) }
+    ensures many { IfOk result (λ v. length v.items ≡ workers) }
+    ensures each { IfOk result (λ v. All (λ w. HasPut queue.now counts.now [] w) v.items) }
 {
     let mut team = Vec::with_capacity(alloc, usize::from(workers))?;
-    for number in 0..workers {
+    for _ in 0..workers {
+        let room = counts.len() / usize::from(workers);
         let part = queue.split(pass);
-        team.push_reserved(Worker::new(alloc, queue, number, part));
+        team.push_reserved(Worker::new(alloc, part, room)?);
     }
     Ok(team)
 }
 
-/// What all workers have done, and the last one.
-fn gathered(
-    alloc: Global,
-    team: &[Worker<'_>],
-    last: &Worker<'_>,
-) -> Result<Vec<Audited>, AllocError> {
-    let mut done = Vec::new(alloc);
-    for worker in team {
-        worker.add_done(&mut done)?;
+/// All workers work, each on a thread of its own where one can be made.
+fn work<G: Gate + Sync, R: Threads + Wait + Sync>(rt: &R, team: &mut [Worker], desk: &Desk<'_, G>)
+    requires workers { 0 < desk.now.workers }
+    requires few { length team.old ≤ WORKERS }
+    requires each { All (λ w. HasPut desk.now.queue.now desk.now.counts.now [] w) team.old }
+    ensures many { length team.new ≡ length team.old }
+    ensures each { HaveWorked desk.now.queue.now desk.now.counts.now desk.now.items.now
+        desk.now.workers team.new }
+{
+    thread::for_each_mut(
+        rt,
+        team,
+        usize::from(WORKERS),
+        &|number, worker| -> ()
+            requires { (number < 256) × (0 < desk.now.workers) ×
+                HasPut desk.now.queue.now desk.now.counts.now [] worker.now }
+            ensures { HasWorked desk.entry.now.queue.now desk.entry.now.counts.now
+                (own_items desk.entry.now.workers number desk.entry.now.items.now)
+                worker.exit.now }
+        { worker.work_here(rt, desk, number as u8) },
+    );
+}
+
+/// The pass that met all workers, which told what they found.
+fn met<G: Gate>(
+    desk: &Desk<'_, G>,
+    mut team: Vec<Worker>,
+    mut pass: WorkPass,
+    told: &mut [u32],
+) -> Result<WorkPass, AllocError>
+    requires team { length team.items ≡ desk.now.workers }
+    requires each { HaveWorked desk.now.queue.now desk.now.counts.now desk.now.items.now
+        desk.now.workers team.items }
+    requires met { HasMet desk.now.queue.now desk.now.counts.now desk.now.items.now
+        desk.now.workers desk.now.workers told.old pass }
+    ensures { IfOk result (λ p. HasMet desk.now.queue.now desk.now.counts.now desk.now.items.now
+        desk.now.workers 0 told.new p) }
+{
+    while let Some(worker) = team.pop() {
+        worker.tell(told)?;
+        desk.queue.meet(&mut pass, worker.into_pass());
     }
-    last.add_done(&mut done)?;
-    Ok(done)
+    Ok(pass)
+}
+
+/// What was found of each item, by the number of its event. What the workers left is done here.
+fn found<R: Wait>(
+    rt: &R,
+    alloc: Global,
+    desk: &Desk<'_, OpenGate>,
+    team: Vec<Worker>,
+    pass: WorkPass,
+) -> Result<Vec<u32>, AllocError>
+    requires workers { 0 < desk.now.workers }
+    requires team { length team.items ≡ desk.now.workers }
+    requires each { HaveWorked desk.now.queue.now desk.now.counts.now desk.now.items.now
+        desk.now.workers team.items }
+    requires pass { IsOf desk.now.queue.now pass }
+    requires parts { (pass_view pass).parts + desk.now.workers ≡ all_parts }
+    requires none { ((pass_view pass).hand.taken ≡ []) × ((pass_view pass).met ≡ []) }
+    ensures { IfOk result (λ v. map (reported v.items) desk.now.items.now
+        ≡ map (reported desk.now.counts.now) desk.now.items.now) }
+{
+    let mut told = vec![in alloc; 0u32; desk.counts.len()]?;
+    let pass = met(desk, team, pass, told.as_mut_slice())?;
+    let mut last = Worker::new(alloc, pass, 0)?;
+    last.take_all(rt, desk, desk.workers)?;
+    last.tell(told.as_mut_slice())?;
+    Ok(told)
 }
 
 /// How many inserts are pending before each event of a history.
@@ -63,64 +129,50 @@ fn counts_of(alloc: Global, history: &History) -> Result<Vec<u32>, AllocError>
     waiting_counts(alloc, &history.lend())
 }
 
-/// Whether these are all items, each done, in order.
-fn are_all(done: &[Audited], items: &[Item], counts: &[u32]) -> bool
-    ensures { IsTrue result → done.now ≡ map (reported counts.now) items.now }
+/// The items in their order, each with what was found of it.
+fn in_order(alloc: Global, items: &[Item], found: &[u32]) -> Result<Vec<Audited>, AllocError>
+    ensures { IfOk result (λ v. v.items ≡ map (reported found.now) items.now) }
 {
-    if done.len() != items.len() {
-        return false;
+    let mut all = Vec::with_capacity(alloc, items.len())?;
+    for item in items {
+        all.push_reserved(reported(found, *item));
     }
-    for place in 0..items.len() {
-        if done[place] != reported(counts, items[place]) {
-            return false;
-        }
-    }
-    true
+    Ok(all)
 }
 
-/// What was done, in the order of the events. An error says that these aren't all items.
-fn in_order(
-    mut done: Vec<Audited>,
-    items: &[Item],
-    counts: &[u32],
-) -> Result<Vec<Audited>, AllocError>
-    ensures { IfOk result (λ v. v.items ≡ map (reported counts.now) items.now) }
-{
-    done.sort_unstable_by_key(|audited| audited.item.event);
-    if are_all(done.as_slice(), items, counts) {
-        Ok(done)
-    } else {
-        Err(AllocError)
-    }
-}
-
-/// What workers make of these items, which share one queue with so much room.
-fn worked<G: Gate + Sync, R: Threads + Wait + Sync>(
+/// What so many workers make of these items. They share one queue with so much room.
+fn audited<G: Gate + Sync, R: Threads + Wait + Sync>(
     rt: &R,
     alloc: Global,
-    desk: &Desk<'_, G>,
+    items: &[Item],
+    counts: &[u32],
+    workers: u8,
     room: u32,
+    gate: &G,
 ) -> Result<Vec<Audited>, AllocError>
-    requires workers { desk.now.workers ≤ WORKERS }
+    requires workers { (1 ≤ workers) × (workers ≤ WORKERS) }
     requires room { (1 ≤ room) × (room ≤ ROOM) }
+    ensures { IfOk result (λ v. v.items ≡ map (reported counts.now) items.now) }
 {
     let (queue, mut pass) = WorkQueue::new(alloc, room)?;
-    let mut team = team(alloc, &queue, &mut pass, desk.workers)?;
-    thread::for_each_mut(
-        rt,
-        team.as_mut_slice(),
-        usize::from(WORKERS),
-        &|_, worker| { worker.work_here(rt, desk) },
-    );
-    let mut last = Worker::new(alloc, &queue, desk.workers, pass);
+    let mut team = team(alloc, &queue, counts, &mut pass, workers)?;
+    let desk = Desk {
+        queue: &queue,
+        items,
+        counts,
+        workers,
+        gate,
+    };
+    work(rt, team.as_mut_slice(), &desk);
     let open = Desk {
-        items: desk.items,
-        counts: desk.counts,
-        workers: desk.workers,
+        queue: &queue,
+        items,
+        counts,
+        workers,
         gate: &OpenGate,
     };
-    last.finish(rt, &open);
-    gathered(alloc, team.as_slice(), &last)
+    let found = found(rt, alloc, &open, team, pass)?;
+    in_order(alloc, items, found.as_slice())
 }
 
 /// The audit of a history: its work items in the order of their events, each with how many inserts
@@ -134,8 +186,7 @@ fn worked<G: Gate + Sync, R: Threads + Wait + Sync>(
 /// ended is done here.
 ///
 /// The history has at most 160,000 events; `workers` is 1 to 16 and `room` 1 to 1,024. It may wait.
-/// An error is want of memory, and then the workers ended first. What they did is compared with the
-/// items of the history before it is answered: an error would come too where these differ.
+/// An error is want of memory, and then the workers ended first.
 #[tactic(auto, using(crate::proofs::Reports::all_reports))]
 pub fn audit<G: Gate + Sync, R: Threads + Wait + Sync>(
     rt: &R,
@@ -152,12 +203,13 @@ pub fn audit<G: Gate + Sync, R: Threads + Wait + Sync>(
 {
     let items = items(alloc, history)?;
     let counts = counts_of(alloc, history)?;
-    let desk = Desk {
-        items: items.as_slice(),
-        counts: counts.as_slice(),
+    audited(
+        rt,
+        alloc,
+        items.as_slice(),
+        counts.as_slice(),
         workers,
+        room,
         gate,
-    };
-    let done = worked(rt, alloc, &desk, room)?;
-    in_order(done, items.as_slice(), counts.as_slice())
+    )
 }

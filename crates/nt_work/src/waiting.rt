@@ -1,11 +1,12 @@
 //! How many inserts are pending before an event.
-ghost use Rattle.std.specs.Prelude.{◌≡◌, ◌+◌, ◌<◌, ◌≤◌, IfOk, OnOk, filter, length, map, reverse};
-ghost use Rattle.std.specs.Prelude.{take};
+ghost use Rattle.std.specs.Prelude.{◌≡◌, ◌+◌, ◌<◌, ◌≤◌, IfOk, OnOk, filter, length, map};
+ghost use Rattle.std.specs.Prelude.{reverse, take, ℕ};
 ghost use Rattle.nt_event.specs.declared.limits.TheConstants.{EVENTS};
 ghost use Rattle.nt_event.specs.Fate.{fate_of, still_waits};
 ghost use Rattle.nt_work.specs.Audits.{lent, waiting, waitings, waits_in};
 ghost use Rattle.nt_work.specs.Changes.{added_by, after_change, change_at, inserted_of};
-ghost use Rattle.nt_work.specs.Changes.{stays_by, thing_of};
+ghost use Rattle.nt_work.specs.Changes.{RiseBelow, stays_by, thing_of};
+ghost use Rattle.nt_work.specs.declared.change.Change.TheVariants.{Takes};
 
 use crate::change::{Change, Insert, change_at};
 use nt_history::{Briefs, History};
@@ -66,7 +67,7 @@ pub fn waiting_at(history: &History, number: u64) -> u32
     count
 }
 
-/// Keeps the inserts that the change doesn't use up.
+/// Keeps the inserts that the change doesn't use up, which may be several.
 fn keep_others(pending: &mut Vec<Insert>, change: Change)
     ensures kept { pending.new.items ≡ filter (stays_by change) pending.old.items }
     ensures fewer { length pending.new.items ≤ length pending.old.items }
@@ -78,8 +79,25 @@ fn keep_others(pending: &mut Vec<Insert>, change: Change)
     );
 }
 
+/// Takes away the insert that is used up, if it is there. In a run it is mostly among the first.
+fn take_away(pending: &mut Vec<Insert>, taken: Insert)
+    requires { (n : ℕ) × RiseBelow n pending.old.items }
+    ensures kept { pending.new.items ≡ filter (stays_by (Takes taken)) pending.old.items }
+    ensures fewer { length pending.new.items ≤ length pending.old.items }
+{
+    let change = Change::Takes(taken);
+    for place in 0..pending.len() {
+        if change.uses_up(&pending[place]) {
+            pending.remove(place);
+            return;
+        }
+    }
+}
+
 /// Brings the pending inserts up to date behind the event of this number.
 fn note(pending: &mut Vec<Insert>, change: Change, number: u64) -> Result<(), AllocError>
+    requires { RiseBelow number pending.old.items }
+    ensures rise { OnOk result (RiseBelow (number + 1) pending.new.items) }
     ensures noted { OnOk result (map inserted_of pending.new.items ≡
         after_change change number (map inserted_of pending.old.items)) }
     ensures more { length pending.new.items ≤ length pending.old.items + 1 }
@@ -87,7 +105,7 @@ fn note(pending: &mut Vec<Insert>, change: Change, number: u64) -> Result<(), Al
     match change {
         Change::Inserts(object) => pending.push(Insert { number, object })?,
         Change::Removes(_) => keep_others(pending, change),
-        Change::Takes(_) => keep_others(pending, change),
+        Change::Takes(taken) => take_away(pending, taken),
         Change::Nothing => {}
     }
     Ok(())

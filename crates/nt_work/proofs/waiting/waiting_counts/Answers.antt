@@ -29,6 +29,7 @@ loop-number-preserved c =
       pending =
           c.in_ok-note.ensures.noted ∙ ap (λ (ch : Change). after_change ch k (map inserted_of pending)) c.change_at.ensures
           ∙ ap (after_change (change_at events k) k) before.pending ∙ sym (waiting_more events k lt);
+      rise = c.in_ok-note.ensures.rise;
       few = omega (arith, c.note.ensures.more, before.few);
       many =
           ap (λ (xs : List ℕ). length xs) c.push_reserved.ensures.items ∙ length_push c.loop-number.counts.items c.len.result
