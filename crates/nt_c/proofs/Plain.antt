@@ -1,15 +1,30 @@
 -- What `plain` answers over a source and a sink that met no fault.
-use Rattle.std.proofs.Common.{List, Some, arith, false, subst, sym, ℕ, ◌≡◌}
+use Rattle.std.proofs.Common.{List, Some, arith, false, lit<, subst, sym, ℕ, ◌<◌, ◌≡◌}
 use Rattle.nt_outside.specs.Counts.{Rose}
 use Rattle.nt_words.specs.Forms.{names_live}
 use Rattle.nt_top.specs.declared.status.Status.{Status}
+use Rattle.nt_top.specs.declared.status.Status.TheVariants as exit
 use Rattle.nt_top.specs.Outcome.{HasCause, IsAnswered, Supply, store, supply}
 use Rattle.nt_top.specs.Status.{status_number}
-use Rattle.nt_c.specs.Call.{IsPlain}
+use Rattle.nt_c.specs.Call.{IsPlain, needs_threads}
 use Rattle.nt_c.specs.Streams.{Input, Text, new_input, new_text}
 
 no_rise : Rose 0 0 → ⊥
 no_rise h = omega (arith, h)
+
+other : (s : Status) → status_number s < needs_threads
+other exit.Ok = lit< tt
+other exit.Usage = lit< tt
+other exit.Script = lit< tt
+other exit.Schedule = lit< tt
+other exit.Read = lit< tt
+other exit.Write = lit< tt
+other exit.Memory = lit< tt
+other exit.TooLong = lit< tt
+other exit.Illegal = lit< tt
+other exit.NoGoal = lit< tt
+other exit.NotDelivered = lit< tt
+other exit.TooMany = lit< tt
 
 -- what `plain` ensures from this source and sink to these
 abbrev Told : List (List ℕ) → Input → Text → Supply → List ℕ → ℕ → Status → Type 0
@@ -23,6 +38,7 @@ from_told {left = left} {status = status} alone no_fault is told = record {
   alone = alone;
   status = status;
   is = is;
+  other = subst (λ n. n < needs_threads) (sym is) (other status);
   left = left;
   no_fault = no_fault;
   answered = told.0;

@@ -1,6 +1,6 @@
 -- What a call from C answers.
 use Rattle.std.specs.Prelude.{List, Some, [], drop, false, if◌then◌else◌, length, min, nat_lt, take, true, ℕ}
-use Rattle.std.specs.Prelude.{◌≡◌, ◌≢◌, ◌⊎◌}
+use Rattle.std.specs.Prelude.{◌<◌, ◌≡◌, ◌≢◌, ◌⊎◌}
 use Rattle.nt_words.specs.Forms.{names_live}
 use Rattle.nt_top.specs.declared.status.Status.{Status}
 use Rattle.nt_top.specs.declared.status.Status.TheVariants as exit
@@ -8,12 +8,17 @@ use Rattle.nt_top.specs.Outcome.{HasCause, IsAnswered, Supply, memory_line, stor
 use Rattle.nt_top.specs.Status.{status_number}
 use Rattle.nt_c.specs.Words.{AreWords}
 
+-- the status of words that need threads
+abbrev pub needs_threads : ℕ
+needs_threads = 12
+
 -- what `plain` answers to these words, none of which is `live` or `audit`: the source has the bytes of the input, and
 -- the empty sink holds the whole text in the end. Neither of them fails.
 pub record IsPlain (words : List (List ℕ)) (input : List ℕ) (number : ℕ) (text : List ℕ) : Type 0 where
   pub alone : names_live words ≡ false
   pub status : Status
   pub is : number ≡ status_number status
+  pub other : number < needs_threads
   -- the source as it was left
   pub left : Supply
   pub no_fault : left.faults ≡ 0
@@ -21,10 +26,6 @@ pub record IsPlain (words : List (List ℕ)) (input : List ℕ) (number : ℕ) (
   pub causes : HasCause words (supply (Some input) 0 0) left (store (Some []) 0) (store (Some text) 0) status
   pub read : status ≢ exit.Read
   pub taken : status ≢ exit.Write
-
--- the status of words that need threads
-abbrev pub needs_threads : ℕ
-needs_threads = 12
 
 -- one of the words is `live` or `audit`
 pub record IsThreaded (words : List (List ℕ)) (number : ℕ) (text : List ℕ) : Type 0 where
