@@ -181,7 +181,8 @@ command_shown input k (f ∷ args) y e =
     let names = input.names in
     let cpus = input.script.cpus in
     let P = Shown (command_row names) (CommandIsPlain input) (f ∷ args) in
-    through P (read_verb input.version f >>= λ v. ok (v, args)) (λ (v : Verb × Row). command_of names cpus v.0 v.1 >>= λ c. ok (c, behind (verb_arity v.0) v.1)) y e
+    through P (read_verb input.version f >>= λ v. ok (v, args)) (λ (v : Verb × Row). command_of names cpus v.0 v.1 >>= λ c. ok (c, behind (verb_arity v.0) v.1))
+    y e
     (λ w is then.
     let b = bind_ok (read_verb input.version f) (λ (v : Verb). ok (v, args)) w is in
     made (λ (w : Verb × Row). (command_of names cpus w.0 w.1 >>= λ c. ok (c, behind (verb_arity w.0) w.1)) ≡ Ok y → P y) (b.value, args) w b.then
@@ -201,7 +202,8 @@ command_shown input k (f ∷ args) y e =
           command_to input.script names k.counts c t.fits,
         )
 
-command_read : (input : Input) → Known input → (c : Command) (more : Row) → CommandIsPlain input c → command input (command_row input.names c ++ more) ≡ Ok (c, more)
+command_read : (input : Input) → Known input → (c : Command) (more : Row) → CommandIsPlain input c →
+    command input (command_row input.names c ++ more) ≡ Ok (c, more)
 command_read input k c more h =
     let names = input.names in
     let cpus = input.script.cpus in

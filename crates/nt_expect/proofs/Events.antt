@@ -34,7 +34,8 @@ use Rattle.nt_expect.specs.declared.expectations.NamedReply.{NamedReply}
 use Rattle.nt_expect.specs.declared.expectations.NamedReply.TheVariants as named
 use Rattle.nt_expect.specs.declared.expectations.Watched.{Watched}
 use Rattle.nt_expect.specs.declared.expectations.Watched.TheVariants.{Note, Refused, Begin, Expire, Gone, Call}
-use Rattle.nt_expect.specs.Expectations.{ActivityHasRange, ExpectationIsPlain, WatchedHasRange, activity_fits, activity_row, expectation_row, expected_row, is_always}
+use Rattle.nt_expect.specs.Expectations.{ActivityHasRange, ExpectationIsPlain, WatchedHasRange, activity_fits, activity_row, expectation_row, expected_row}
+use Rattle.nt_expect.specs.Expectations.{is_always}
 use Rattle.nt_expect.specs.Expectations.{quantifier, reply_row, watched_fits, watched_row}
 use Rattle.nt_expect.specs.Fields.{behind_word, command, hexadecimal_of, one_field, read_hexadecimal}
 use Rattle.nt_expect.specs.Reading.{always_of, activity_of, expectation_of, is_activity_word, never_behind, never_event, never_of, never_with, never_with_word}
@@ -56,7 +57,8 @@ ActivityIsPlain input b = (activity_fits input.script b ≡ true) × ActivityHas
 abbrev ActivityShown : Input → Row → Activity × Row → Type 0
 ActivityShown input row y = Shown (activity_row input.names) (ActivityIsPlain input) row y
 
-activity_of_shown : (input : Input) → Known input → (w : List ℕ) (row : Row) (y : Activity × Row) → activity_of input.names w row ≡ Ok y → ActivityShown input (w ∷ row) y
+activity_of_shown : (input : Input) → Known input → (w : List ℕ) (row : Row) (y : Activity × Row) → activity_of input.names w row ≡ Ok y →
+    ActivityShown input (w ∷ row) y
 activity_of_shown input k w row y e =
     go (bytes_eq w (codes "int")) (bytes_eq w (codes "dpc")) (bytes_eq w (codes "apc")) (bytes_eq w (codes "thread")) refl refl refl refl e
   where
@@ -73,10 +75,12 @@ activity_of_shown input k w row y e =
     go false false true d p q r s e =
         by_word (one (apc_named input k)).takes (λ (x : ApcNo). act.Apc x) (ActivityShown input) (codes "apc") (λ x more h. (refl, (h, tt))) w row y r e
     go false false false true p q r s e =
-        by_word (one (thread_named input k)).takes (λ (x : ThreadNo). act.Thread x) (ActivityShown input) (codes "thread") (λ x more h. (refl, (h, tt))) w row y s e
+        by_word (one (thread_named input k)).takes (λ (x : ThreadNo). act.Thread x) (ActivityShown input) (codes "thread") (λ x more h. (refl, (h, tt))) w row y
+        s e
     go false false false false p q r s e = absurd cc
 
-activity_again : (input : Input) → Known input → (b : Activity) (more : Row) → ActivityIsPlain input b → read_activity input.names (activity_row input.names b ++ more) ≡ Ok (b, more)
+activity_again : (input : Input) → Known input → (b : Activity) (more : Row) → ActivityIsPlain input b →
+    read_activity input.names (activity_row input.names b ++ more) ≡ Ok (b, more)
 activity_again input k (act.Int l) more h = mapped_again (one isr_level_field) (λ (l : ℕ). act.Int l) l more (h.1, h.0)
 activity_again input k (act.Dpc d) more h = mapped_again (one (dpc_named input k)) (λ (x : DpcNo). act.Dpc x) d more h.0
 activity_again input k (act.Apc a) more h = mapped_again (one (apc_named input k)) (λ (x : ApcNo). act.Apc x) a more h.0
@@ -110,7 +114,8 @@ reply_of_shown version w row y e =
     (bytes_eq w (codes "refused")) (bytes_eq w (codes "spin") && version == 2) refl refl refl refl refl refl refl e
   where
     go : (a b c d s r t : Bool) → bytes_eq w (codes "yes") ≡ a → bytes_eq w (codes "no") ≡ b → bytes_eq w (codes "done") ≡ c →
-        bytes_eq w (codes "blocked") ≡ d → bytes_eq w (codes "status") ≡ s → bytes_eq w (codes "refused") ≡ r → (bytes_eq w (codes "spin") && version == 2) ≡ t →
+        bytes_eq w (codes "blocked") ≡ d → bytes_eq w (codes "status") ≡ s → bytes_eq w (codes "refused") ≡ r →
+        (bytes_eq w (codes "spin") && version == 2) ≡ t →
         cond a (ok (named.Yes, row)) (cond b (ok (named.No, row)) (cond c (ok (named.Done, row)) (cond d (ok (named.Blocked, row))
         (cond s (one_field read_hexadecimal row >>= λ (x : ℕ × Row). ok (named.Status x.0, x.1))
         (cond r (ok (named.Refused, row)) (cond t (ok (named.Spin, row)) (Err UnknownWord))))))) ≡ Ok y → ReplyShown (w ∷ row) y
@@ -408,7 +413,8 @@ waits_shown : (input : Input) → Known input → (row : Row) (y : Expectation �
     Expects input false (codes "waits" ∷ row) y
 waits_shown input k = worded (waits_of input.names) (λ row y. Expects input false (codes "waits" ∷ row) y) (waits_of_shown input k)
 
-never_of_shown : (input : Input) → Known input → (w : List ℕ) (row : Row) (y : Expectation × Row) → never_of input w row ≡ Ok y → Expects input false (w ∷ row) y
+never_of_shown : (input : Input) → Known input → (w : List ℕ) (row : Row) (y : Expectation × Row) → never_of input w row ≡ Ok y →
+    Expects input false (w ∷ row) y
 never_of_shown input k w row y e =
     go (bytes_eq w (codes "waits")) (bytes_eq w (codes "blocked")) (bytes_eq w (codes "spins") && input.version == 2) (is_activity_word w) refl refl refl e
   where
@@ -492,7 +498,8 @@ always_reads input (Call c a) = refl
 
 with_reads : (input : Input) (b : Activity) (more : Row) →
     expectation_of input (codes "never") (activity_row input.names b ++ more)
-    ≡ (read_activity input.names (activity_row input.names b ++ more) >>= λ (b : Activity × Row). behind_word (codes "with") b.1 >>= read_activity input.names >>=
+    ≡ (read_activity input.names (activity_row input.names b ++ more) >>=
+    λ (b : Activity × Row). behind_word (codes "with") b.1 >>= read_activity input.names >>=
     λ (c : Activity × Row). ok (NeverWith b.0 c.0, c.1))
 with_reads input (act.Int l) more = refl
 with_reads input (act.Dpc d) more = refl
@@ -528,7 +535,8 @@ expectation_again input k (NeverWith b c) h =
     let p = and_parts (activity_fits input.script b) (activity_fits input.script c) h.0 in
     let more : Row = codes "with" ∷ activity_row input.names c in
     with_reads input b more
-    ∙ bind_is (read_activity input.names (activity_row input.names b ++ more)) (λ (b : Activity × Row). behind_word (codes "with") b.1 >>= read_activity input.names >>=
+    ∙ bind_is (read_activity input.names (activity_row input.names b ++ more))
+    (λ (b : Activity × Row). behind_word (codes "with") b.1 >>= read_activity input.names >>=
     λ (c : Activity × Row). ok (NeverWith b.0 c.0, c.1)) (b, more) ((activities input k).again b more (p.0, h.1.0))
     ∙ last_again (behind (activities input k) (codes "with") refl) (λ (c : Activity). NeverWith b c) c (p.1, h.1.1)
 expectation_again input k (NeverWaitsDpc d) h = last_again (one (dpc_named input k)) (λ (d : DpcNo). NeverWaitsDpc d) d h.0
@@ -558,7 +566,8 @@ expected_clean input k (NeverOn x p) h =
     both_clean (watched_row input.names x) (codes "on" ∷ decimal p.0 ∷ []) (watched_clean input k x (q.0, h.1)) ((one (cpu_field input k)).clean p q.1)
 expected_clean input k (NeverWith b c) h =
     let p = and_parts (activity_fits input.script b) (activity_fits input.script c) h.0 in
-    both_clean (activity_row input.names b) (codes "with" ∷ activity_row input.names c) (activity_clean input k b (p.0, h.1.0)) (activity_clean input k c (p.1, h.1.1))
+    both_clean (activity_row input.names b) (codes "with" ∷ activity_row input.names c) (activity_clean input k b (p.0, h.1.0))
+    (activity_clean input k c (p.1, h.1.1))
 expected_clean input k (NeverWaitsDpc d) h = (one (dpc_named input k)).clean d h.0
 expected_clean input k (NeverWaitsApc a) h = (one (apc_named input k)).clean a h.0
 expected_clean input k (NeverBlocked t) h = (one (thread_named input k)).clean t h.0

@@ -8,3 +8,4 @@ pub mod Events
 pub mod Walks
 pub mod Contract
 pub mod Texts
+pub mod Meanings

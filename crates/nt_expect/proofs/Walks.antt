@@ -1,5 +1,6 @@
 -- The lines of expectations are read as these, and what is read are expectations with these lines.
-use Rattle.std.proofs.Common.{◌≡◌, ◌∙◌, ℕ, ◌+◌, ◌≤◌, Bool, true, false, cond, List, [], ◌∷◌, ◌++◌, length, map, Result, Ok, Err, refl, sym, ap, subst, append_assoc}
+use Rattle.std.proofs.Common.{◌≡◌, ◌∙◌, ℕ, ◌+◌, ◌≤◌, Bool, true, false, cond, List, [], ◌∷◌, ◌++◌, length, map, Result, Ok, Err, refl, sym, ap, subst}
+use Rattle.std.proofs.Common.{append_assoc}
 use Rattle.std.proofs.Common.{append-nil, arith}
 use Rattle.std.specs.Prelude.{codes, nat_lt}
 use Rattle.std.specs.List.{AllByRecursion}
@@ -24,7 +25,8 @@ use Rattle.nt_expect.specs.declared.lines.ExpectPlace.TheVariants.{InList, Done}
 use Rattle.nt_expect.specs.declared.lines.ExpectWalk.{ExpectWalk}
 use Rattle.nt_expect.specs.declared.refusals.ExpectKind.{ExpectKind}
 use Rattle.nt_expect.specs.declared.refusals.ExpectKind.TheVariants.{TooMany}
-use Rattle.nt_expect.specs.Expectations.{ArePlain, ExpectationIsPlain, done_row, expect_row, expectation_row, expectation_rows, expected_row, is_always, quantifier}
+use Rattle.nt_expect.specs.Expectations.{ArePlain, ExpectationIsPlain, done_row, expect_row, expectation_row, expectation_rows, expected_row, is_always}
+use Rattle.nt_expect.specs.Expectations.{quantifier}
 use Rattle.nt_expect.specs.Fields.{at_end}
 use Rattle.nt_expect.specs.Reading.{expectation_of, go_on, head_line, line_at, list_line, read_line, start, step_by, taken, walk}
 use Rattle.nt_expect.proofs.Known.{Known, known}

@@ -4,3 +4,4 @@ pub mod Expectations
 pub mod Fields
 pub mod Reading
 pub mod Gives
+pub mod Meaning

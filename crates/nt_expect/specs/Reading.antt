@@ -1,7 +1,7 @@
 -- What is read of expectations line by line, and what is wrong with a line. The tests of a line come in the order in
 -- which the steps `>>=` stand: its fields from left to right, without a count beforehand.
-use Rattle.std.specs.Prelude.{ℕ, ◌+◌, Bool, ◌&&◌, ◌||◌, List, [], ◌∷◌, ◌++◌, length, Result, Ok, Err, codes, nat_lt, ◌==◌}
-use Rattle.std.specs.Prelude.{if◌then◌else◌}
+use Rattle.std.specs.Prelude.{ℕ, ◌+◌, Bool, ◌&&◌, ◌||◌, List, [], ◌∷◌, ◌++◌, length, Result, Ok, Err, codes}
+use Rattle.std.specs.Prelude.{nat_lt, ◌==◌, if◌then◌else◌}
 use Rattle.std.specs.Str.{bytes_eq}
 use Rattle.nt_text.specs.declared.kind.ScriptKind.{ScriptKind}
 use Rattle.nt_text.specs.declared.kind.ScriptKind.TheVariants.{ExtraField, NoEnd, UnknownWord, WrongKind}
@@ -99,7 +99,8 @@ abbrev pub never_with_word : Input → Watched → List ℕ → Row → Result (
 never_with_word input e word row =
     if bytes_eq word (codes "twice") then Ok (NeverTwice e, row)
     else (if bytes_eq word (codes "above") then (one_field read_level row >>= λ l. Ok (NeverAbove e l.0, l.1))
-    else (if bytes_eq word (codes "on") then (one_field (read_cpu input.script.cpus) row >>= λ p. Ok (NeverOn e p.0, p.1))
+    else (if bytes_eq word (codes "on") then (one_field (read_cpu input.script.cpus) row >>= λ p.
+    Ok (NeverOn e p.0, p.1))
     else (if bytes_eq word (codes "after") then (read_watched input row >>= λ f. Ok (NeverAfter e f.0, f.1))
     else (if bytes_eq word (codes "before") then (read_watched input row >>= λ f. Ok (NeverBefore e f.0, f.1))
     else Err UnknownWord))))
@@ -110,8 +111,8 @@ never_behind input e (word ∷ row) = never_with_word input e word row
 
 -- two activities, the first by its word
 abbrev pub never_with : NameLists → List ℕ → Row → Result (Expectation × Row) ScriptKind
-never_with names word row = activity_of names word row >>= λ b. behind_word (codes "with") b.1 >>= read_activity names >>= λ c.
-    Ok (NeverWith b.0 c.0, c.1)
+never_with names word row = activity_of names word row >>= λ b. behind_word (codes "with") b.1 >>=
+    read_activity names >>= λ c. Ok (NeverWith b.0 c.0, c.1)
 
 -- what waits, by its word
 abbrev pub waits_of : NameLists → List ℕ → Row → Result (Expectation × Row) ScriptKind

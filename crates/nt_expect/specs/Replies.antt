@@ -137,7 +137,8 @@ name_of (reply.Refused r) = named.Refused
 
 -- a command that isn't refused gives only such replies, wherever the processor stands and whatever the lanes hold
 abbrev pub RepliesMayBe : Type 0
-RepliesMayBe = (s : Script) (st : Stand) (l : Lanes) (c : Command) → may_reply c (name_of (commands.reply s st l c)) ≡ true
+RepliesMayBe = (s : Script) (st : Stand) (l : Lanes) (c : Command) →
+    may_reply c (name_of (commands.reply s st l c)) ≡ true
 
 -- a command that is refused somewhere may be refused
 abbrev pub RefusalsMayBe : Type 0
