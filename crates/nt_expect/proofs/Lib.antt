@@ -1,0 +1,11 @@
+pub mod Steps
+pub mod Known
+pub mod Hexadecimals
+pub mod NamedReplies
+pub mod Commands
+pub mod Parses
+pub mod Events
+pub mod Walks
+pub mod Contract
+pub mod Texts
+pub mod Meanings
