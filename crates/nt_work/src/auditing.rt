@@ -23,6 +23,10 @@ use std::thread::Threads;
 /// Workers at most.
 pub const WORKERS: u8 = 16;
 
+/// Workers that are at work at once, at most: more of them contend for the one queue, and the audit
+/// takes longer.
+const AT_ONCE: usize = 2;
+
 /// So many workers, each with a part of the pass. Each has room for an equal share of as many items
 /// as there are events, so that it seldom takes memory while it works.
 fn team(
@@ -50,7 +54,7 @@ fn team(
     Ok(team)
 }
 
-/// All workers work, each on a thread of its own where one can be made.
+/// All workers work, two at once where a thread can be made.
 fn work<G: Gate + Sync, R: Threads + Wait + Sync>(rt: &R, team: &mut [Worker], desk: &Desk<'_, G>)
     requires workers { 0 < desk.now.workers }
     requires few { length team.old ≤ WORKERS }
@@ -62,7 +66,7 @@ fn work<G: Gate + Sync, R: Threads + Wait + Sync>(rt: &R, team: &mut [Worker], d
     thread::for_each_mut(
         rt,
         team,
-        usize::from(WORKERS),
+        AT_ONCE,
         &|number, worker| -> ()
             requires { (number < 256) × (0 < desk.now.workers) ×
                 HasPut desk.now.queue.now desk.now.counts.now [] worker.now }
@@ -178,8 +182,8 @@ fn audited<G: Gate + Sync, R: Threads + Wait + Sync>(
 /// The audit of a history: its work items in the order of their events, each with how many inserts
 /// were pending before it.
 ///
-/// So many workers share one queue with so much room, each on a thread of its own where one can be
-/// made; else they run in turn. Worker `k` puts the items of the processors whose number divided by
+/// So many workers share one queue with so much room, two of them at work at once where a thread can
+/// be made; else they run in turn. Worker `k` puts the items of the processors whose number divided by
 /// `workers` leaves `k`, in their order, and then takes items until the queue is empty. Where there
 /// is no room, it takes an item and does it, and tries again. Before each item that it does, it
 /// passes the gate with `k` and how many items it has done. What is left when the workers have
