@@ -182,12 +182,12 @@ fn audited<G: Gate + Sync, R: Threads + Wait + Sync>(
 /// The audit of a history: its work items in the order of their events, each with how many inserts
 /// were pending before it.
 ///
-/// So many workers share one queue with so much room, two of them at work at once where a thread can
-/// be made; else they run in turn. Worker `k` puts the items of the processors whose number divided by
-/// `workers` leaves `k`, in their order, and then takes items until the queue is empty. Where there
-/// is no room, it takes an item and does it, and tries again. Before each item that it does, it
-/// passes the gate with `k` and how many items it has done. What is left when the workers have
-/// ended is done here.
+/// So many workers share one queue with so much room, two of them at work at once where a thread
+/// can be made; else they run in turn. Worker `k` puts the items of the processors whose number
+/// divided by `workers` leaves `k`, in their order, and then takes items until the queue is empty.
+/// Where there is no room, it takes an item and does it, and tries again. Before each item that it
+/// does, it passes the gate with `k` and how many items it has done. What is left when the workers
+/// have ended is done here.
 ///
 /// The history has at most 160,000 events; `workers` is 1 to 16 and `room` 1 to 1,024. It may wait.
 /// An error is want of memory, and then the workers ended first.
