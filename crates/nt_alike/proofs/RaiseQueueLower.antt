@@ -76,7 +76,7 @@ run_gone : IsFreeRun script gone
 unfolding table_from
 run_gone = ((refl, tt), run_body_ended)
 
-run_rested : IsFreeRun script rested
+pub run_rested : IsFreeRun script rested
 unfolding table_from
 run_rested = ((refl, tt), run_gone)
 
@@ -166,10 +166,10 @@ from_rested f m =
 
 -- ---- a line, so a closed list
 
-later : List (List Event)
+unfoldable pub later : List (List Event)
 later = switched ∷ raised ∷ queued ∷ lowered ∷ dpc_begun ∷ noted ∷ dpc_ended ∷ cleaned ∷ body_ended ∷ gone ∷ rested ∷ []
 
-line : Line script [] later
+pub line : Line script [] later
 unfolding later
 line =
     GoesTo tt from_opening (GoesTo run_switched from_switched (GoesTo run_raised from_raised (GoesTo run_queued from_queued

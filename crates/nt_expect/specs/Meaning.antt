@@ -30,7 +30,7 @@ use Rattle.nt_event.specs.Replies.{is_refused}
 use Rattle.nt_event.specs.Robin.{is_settled}
 use Rattle.nt_event.specs.Routines.{owner_of}
 use Rattle.nt_event.specs.Script.{has_cpu}
-use Rattle.nt_event.specs.Step.{IsRun, is_cut}
+use Rattle.nt_event.specs.Step.{is_cut}
 use Rattle.nt_event.specs.Threads.{waiting}
 use Rattle.nt_expect.specs.declared.expectations.Activity.{Activity}
 use Rattle.nt_expect.specs.declared.expectations.Activity.TheVariants as act
@@ -181,33 +181,3 @@ abbrev pub IsShownAt : Script → ℕ → Expectation → List Event → ℕ →
 IsShownAt s limit x h k =
     ((e : Event) × (past : List Event) × IsEvent h k e past × ShowsAt s x e past)
     ⊎ (IsQuiet s limit h × ShowsAtEnd s x h × (length h ≡ k))
-
--- ---- whether it fails
-
--- some run shows it, under whatever limit
-pub record IsShown (s : Script) (x : Expectation) : Type 0 where
-  pub limit : ℕ
-  pub history : List Event
-  pub number : ℕ
-  pub run : IsRun s limit history
-  pub shown : IsShownAt s limit x history number
-
--- there are runs of every length
-abbrev pub IsEndless : Script → Type 0
-IsEndless s = (n : ℕ) → (limit : ℕ) × (h : List Event) × IsRun s limit h × (length h ≡ n)
-
--- the expectation fails in some run of the script, under some schedule
-abbrev pub Fails : Script → Expectation → Type 0
-Fails s (Never x) = IsShown s (Never x)
-Fails s (NeverAfter x y) = IsShown s (NeverAfter x y)
-Fails s (NeverBefore x y) = IsShown s (NeverBefore x y)
-Fails s (NeverTwice x) = IsShown s (NeverTwice x)
-Fails s (NeverAbove x level) = IsShown s (NeverAbove x level)
-Fails s (NeverOn x p) = IsShown s (NeverOn x p)
-Fails s (NeverWith b c) = IsShown s (NeverWith b c)
-Fails s (NeverWaitsDpc d) = IsShown s (NeverWaitsDpc d)
-Fails s (NeverWaitsApc a) = IsShown s (NeverWaitsApc a)
-Fails s (NeverBlocked t) = IsShown s (NeverBlocked t)
-Fails s (NeverSpins k) = IsShown s (NeverSpins k)
-Fails s (Always x) = IsShown s (Always x)
-Fails s AlwaysEnds = IsEndless s

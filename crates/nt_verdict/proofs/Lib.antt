@@ -1,0 +1,4 @@
+pub mod Events
+pub mod States
+pub mod Verdicts
+pub mod Row

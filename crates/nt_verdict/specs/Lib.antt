@@ -1,0 +1,3 @@
+pub mod Fails
+pub mod Closed
+pub mod Row
