@@ -140,7 +140,8 @@ came_same x e f h k q c = (one e f h k q c.1 c.0, one f e k h (sym q) c.0 c.1)
     one e f h k q back on (inl m) = inl (matches_same x e f h k q back m)
     one e f h k q back on (inr m) = inr (on m)
 
-pub all_came_same : (xs : List Watched) (e f : Event) (h k : List Event) → bare_event e ≡ bare_event f → Each (CameAlike h k) xs → Each (CameAlike (e ∷ h) (f ∷ k)) xs
+pub all_came_same : (xs : List Watched) (e f : Event) (h k : List Event) → bare_event e ≡ bare_event f → Each (CameAlike h k) xs →
+    Each (CameAlike (e ∷ h) (f ∷ k)) xs
 all_came_same [] e f h k q c = tt
 all_came_same (x ∷ xs) e f h k q c = (came_same x e f h k q c.0, all_came_same xs e f h k q c.1)
 

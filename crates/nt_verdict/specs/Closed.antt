@@ -1,5 +1,5 @@
--- A closed list of histories tells that an expectation fails in no run: none of the list shows it, and every run is like
--- one of the list.
+-- A closed list of histories tells that an expectation fails in no run: none of the list shows it, and every run is
+-- like one of the list.
 use Rattle.std.specs.Prelude.{List, [], true, ℕ, ◌∷◌, ◌≡◌}
 use Rattle.nt_event.specs.declared.events.Event.{Event}
 use Rattle.nt_event.specs.declared.scripts.Script.{Script}

@@ -1,5 +1,5 @@
--- Verdicts on the worked row raise-queue-lower: a thread raises to DISPATCH_LEVEL, queues a DPC that notes 7, and lowers.
--- Its histories, as nt_alike writes them out, are a closed list.
+-- Verdicts on the worked row raise-queue-lower: a thread raises to DISPATCH_LEVEL, queues a DPC that notes 7, and
+-- lowers. Its histories, as nt_alike writes them out, are a closed list.
 use Rattle.std.specs.Prelude.{List, [], ◌∷◌}
 use Rattle.nt_rows.specs.RaiseQueueLower.{d, script}
 use Rattle.nt_alike.specs.Lists.{Each}
