@@ -32,7 +32,7 @@ runs_free s limit (e ∷ past) r l = (
 )
 
 -- a processor made no more events than all did
-made_length : (p : CpuNo) (past : List Event) → made p past ≤ length past
+pub made_length : (p : CpuNo) (past : List Event) → made p past ≤ length past
 made_length p [] = omega arith
 made_length p (e ∷ past) = go (is_of e p) (made_length p past)
   where

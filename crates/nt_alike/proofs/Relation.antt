@@ -1,4 +1,4 @@
--- Each history is like itself, and being alike is transitive.
+-- Each history is like itself, and being alike is symmetric and transitive.
 use Rattle.std.proofs.Common.{ap, sym, ◌∙◌}
 use Rattle.std.specs.Prelude.{List, None, Option, Some, nat_lt, option_map, refl, ◌≡◌}
 use Rattle.nt_event.specs.declared.commands.TimerKey.{TimerKey}
@@ -61,4 +61,24 @@ alike_trans s g h k a b =
       own = λ p. a.own p ∙ b.own p;
       asks = λ p c. a.asks p c ∙ b.asks p c;
       told = λ x p c. a.told x p c ∙ b.told x p c;
+    }
+
+order_sym : (x y : Timers) → bare_timers x ≡ bare_timers y → SameOrder x y → SameOrder y x
+order_sym x y e p a b k l i j ak bl ai bj dues =
+    let m = set_there x y e a i ai in
+    let n = set_there x y e b j bj in
+    let km : m.0 ≡ k = inside m.0 k (sym m.1 ∙ ak) in
+    let ln : n.0 ≡ l = inside n.0 l (sym n.1 ∙ bl) in
+    let due : i.due ≡ k.due = m.2 ∙ ap (λ (z : Setting). z.due) km in
+    let end : j.due ≡ l.due = n.2 ∙ ap (λ (z : Setting). z.due) ln in
+    sym (p a b i j k l ai bj ak bl (due ∙ dues ∙ sym end))
+
+pub alike_sym : (s : Script) (h k : List Event) → Alike s h k → Alike s k h
+alike_sym s h k a =
+    record {
+      lanes = sym a.lanes;
+      order = order_sym (lanes_at s h).timers (lanes_at s k).timers (ap (λ (l : Lanes). l.timers) a.lanes) a.order;
+      own = λ p. sym (a.own p);
+      asks = λ p c. sym (a.asks p c);
+      told = λ x p c. sym (a.told x p c);
     }

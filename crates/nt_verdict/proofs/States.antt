@@ -1,8 +1,8 @@
 -- What stands on processors and in lanes, in histories that are alike.
-use Rattle.std.proofs.Common.{ap, sym, ◌∙◌}
-use Rattle.std.proofs.lemmas.Bool.{lt-ltb, ltb-true}
+use Rattle.std.proofs.Common.{ap, arith, sym, ◌∙◌}
+use Rattle.std.proofs.lemmas.Bool.{lt-leb, lt-ltb, ltb-true}
 use Rattle.std.specs.List.{list_all, list_any}
-use Rattle.std.specs.Prelude.{Bool, List, [], false, get_or, is_some, length, map, refl, true, ℕ, ◌&&◌, ◌++◌, ◌<◌, ◌∷◌, ◌≡◌, ◌||◌}
+use Rattle.std.specs.Prelude.{Bool, List, [], false, get_or, is_some, length, map, refl, suc, true, ℕ, ◌++◌, ◌<◌, ◌∷◌, ◌≡◌, ◌||◌}
 use Rattle.nt_event.specs.declared.events.Event.{Event}
 use Rattle.nt_event.specs.declared.frames.Body.{Body}
 use Rattle.nt_event.specs.declared.numbers.CpuNo.{CpuNo}
@@ -14,15 +14,14 @@ use Rattle.nt_event.specs.declared.threads.Doing.{Doing}
 use Rattle.nt_event.specs.declared.threads.Doing.TheVariants.{Blocked, Gone, Ready, Running}
 use Rattle.nt_event.specs.Frame.{Frame}
 use Rattle.nt_event.specs.Frames.{Frames, frames_of, thread_part}
-use Rattle.nt_event.specs.Jobs.{is_still}
 use Rattle.nt_event.specs.Lanes.{facts_at, lanes_at, lock_at, object_at}
 use Rattle.nt_event.specs.Locks.{LockState, lock_of, spins_at}
 use Rattle.nt_event.specs.Numbers.{cpu, dpc, is_thread}
 use Rattle.nt_event.specs.Objects.{is_queued, object_of, start_object}
-use Rattle.nt_event.specs.Own.{own_of}
-use Rattle.nt_event.specs.Requests.{asked}
-use Rattle.nt_event.specs.Robin.{has_seen, is_done_with}
+use Rattle.nt_event.specs.Own.{made, own_of}
+use Rattle.nt_event.specs.Robin.{is_done_with, is_settled}
 use Rattle.nt_event.specs.Script.{has_dpc, has_lock}
+use Rattle.nt_event.specs.Step.{is_cut}
 use Rattle.nt_event.specs.Threads.{waiting_of}
 use Rattle.nt_event.proofs.Tables.{get_or-table, table-same}
 use Rattle.nt_runs.proofs.LocksRun.{lock_there}
@@ -30,6 +29,7 @@ use Rattle.nt_alike.specs.Alike.{Alike}
 use Rattle.nt_alike.specs.Bare.{bare_doing, bare_frame, bare_frames}
 use Rattle.nt_alike.specs.Ends.{is_quiet}
 use Rattle.nt_alike.specs.Questions.{StandAlike}
+use Rattle.nt_alike.proofs.Free.{made_length}
 use Rattle.nt_alike.proofs.Frames.{part_bare}
 use Rattle.nt_alike.proofs.Questions.{stand_alike}
 use Rattle.nt_expect.specs.declared.expectations.Activity.{Activity}
@@ -114,11 +114,22 @@ module _ (s : Script) (h k : List Event) (al : Alike s h k) where
 
 -- ---- quiet ends
 
--- a settled history in which no processor is cut, is quiet
+-- where no processor is cut, quiet and settled are one
+quiet_settled : (s : Script) (limit : ℕ) (h : List Event) → ((p : ℕ) → p < s.cpus → is_cut limit (own_of s (cpu p) h) ≡ false) →
+    is_quiet s h ≡ is_settled s limit h
+quiet_settled s limit h uncut =
+    ap (list_all (λ b. b)) (table-same {A = Bool} s.cpus _ (λ p. is_done_with s limit (cpu p) h) (λ p l. let u = uncut p l in rw u refl))
+
 pub quiet_is : (s : Script) (limit : ℕ) (h : List Event) → IsQuiet s limit h → is_quiet s h ≡ true
-quiet_is s limit h q =
-    ap (list_all (λ b. b)) (table-same {A = Bool} s.cpus _ (λ p. is_done_with s limit (cpu p) h) one) ∙ q.settled
+quiet_is s limit h q = quiet_settled s limit h (λ p l. q.uncut (cpu p) (lt-ltb p s.cpus l)) ∙ q.settled
+
+-- at a limit that no processor comes to, a quiet history is settled
+pub is_quiet_at : (s : Script) (h : List Event) → is_quiet s h ≡ true → IsQuiet s (suc (length h)) h
+is_quiet_at s h q =
+    record {
+      settled = sym (quiet_settled s (suc (length h)) h (λ p l. none (cpu p))) ∙ q;
+      uncut = λ p l. none p;
+    }
   where
-    one : (p : ℕ) → p < s.cpus →
-        (is_still (own_of s (cpu p) h) && has_seen (own_of s (cpu p) h) (λ c. asked s (cpu p) c h)) ≡ is_done_with s limit (cpu p) h
-    one p l = let u = q.uncut (cpu p) (lt-ltb p s.cpus l) in rw u refl
+    none : (p : CpuNo) → is_cut (suc (length h)) (own_of s p h) ≡ false
+    none p = let m = made_length p h in lt-leb (suc (length h)) (made p h) (omega (arith, m))

@@ -1,6 +1,6 @@
 -- A closed list of histories tells that an expectation fails in no run: none of the list shows it, and every run is
 -- like one of the list.
-use Rattle.std.specs.Prelude.{List, [], true, ℕ, ◌∷◌, ◌≡◌}
+use Rattle.std.specs.Prelude.{List, [], true, ℕ, ◌∷◌, ◌≡◌, ◌⊎◌}
 use Rattle.nt_event.specs.declared.events.Event.{Event}
 use Rattle.nt_event.specs.declared.scripts.Script.{Script}
 use Rattle.nt_alike.specs.Alike.{Alike}
@@ -95,3 +95,16 @@ abbrev pub ClosedListsTell : Type 0
 ClosedListsTell = (s : Script) (watched : List Watched) (x : Expectation) (all : List (List Event)) →
     expectation_fits s x ≡ true → AreWatched watched x → IsClosed s watched all → NoneShows s x all →
     Fails s x → ⊥
+
+-- But where a free run shows it, it fails: by an event that may come, or where it is quiet.
+abbrev pub FreeRunsTell : Type 0
+FreeRunsTell = (s : Script) (x : Expectation) (k : List Event) → IsFreeRun s k →
+    ((f : Event) × MayCome s f k × ShowsAt s x f k) ⊎ ((is_quiet s k ≡ true) × ShowsAtEnd s x k) → Fails s x
+
+-- And where each of a list may go on into the list by some event, there are runs of every length.
+abbrev pub GoesOn : Script → List (List Event) → List Event → Type 0
+GoesOn s all k = IsFreeRun s k × ((f : Event) × MayCome s f k × Among (λ x. Alike s (f ∷ k) x) all)
+
+abbrev pub RoundsTell : Type 0
+RoundsTell = (s : Script) (k : List Event) (all : List (List Event)) →
+    Each (GoesOn s (k ∷ all)) (k ∷ all) → Fails s AlwaysEnds
