@@ -56,7 +56,7 @@ run_dpc_begun : IsFreeRun script dpc_begun
 unfolding table_from
 run_dpc_begun = ((refl, tt), run_lowered)
 
-run_noted : IsFreeRun script noted
+pub run_noted : IsFreeRun script noted
 unfolding table_from
 run_noted = ((refl, tt), run_dpc_begun)
 
@@ -76,7 +76,7 @@ run_gone : IsFreeRun script gone
 unfolding table_from
 run_gone = ((refl, tt), run_body_ended)
 
-pub run_rested : IsFreeRun script rested
+run_rested : IsFreeRun script rested
 unfolding table_from
 run_rested = ((refl, tt), run_gone)
 

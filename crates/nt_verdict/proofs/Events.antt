@@ -11,6 +11,8 @@ use Rattle.nt_event.specs.declared.events.What.{What}
 use Rattle.nt_event.specs.declared.events.What.TheVariants as what
 use Rattle.nt_event.specs.declared.numbers.ThreadNo.{ThreadNo}
 use Rattle.nt_event.specs.Families.{in_begin, in_call, in_expiry, in_switch}
+use Rattle.nt_runs.proofs.Robin.{or_yes}
+use Rattle.nt_runs.proofs.SomeFrame.{or_only}
 use Rattle.nt_alike.specs.Bare.{bare_event, bare_what}
 use Rattle.nt_alike.specs.Lists.{Each}
 use Rattle.nt_expect.specs.declared.expectations.Activity.TheVariants as act
@@ -21,41 +23,21 @@ use Rattle.nt_verdict.specs.Closed.{CameAlike}
 
 -- ---- a test of an event that asks no number
 
-module _ (Q : Command → Reply → Type 0) where
-  call_on : (w : What) → in_call (λ f c y. Q c y) ⊥ w → in_call (λ f c y. Q c y) ⊥ (bare_what w)
-  call_on (what.Look r) m = m
-  call_on w m = m
+call_bare : (Q : Command → Reply → Type 0) (w : What) → in_call (λ f c y. Q c y) ⊥ w ≡ in_call (λ f c y. Q c y) ⊥ (bare_what w)
+call_bare Q (what.Look r) = refl
+call_bare Q w = refl
 
-  call_off : (w : What) → in_call (λ f c y. Q c y) ⊥ (bare_what w) → in_call (λ f c y. Q c y) ⊥ w
-  call_off (what.Look r) m = m
-  call_off w m = m
+begin_bare : (Q : Begun → Type 0) (w : What) → in_begin (λ b from. Q b) ⊥ w ≡ in_begin (λ b from. Q b) ⊥ (bare_what w)
+begin_bare Q (what.Look r) = refl
+begin_bare Q w = refl
 
-  call_same : (w v : What) → bare_what w ≡ bare_what v → in_call (λ f c y. Q c y) ⊥ w → in_call (λ f c y. Q c y) ⊥ v
-  call_same w v q m = call_off v (subst (in_call (λ f c y. Q c y) ⊥) q (call_on w m))
+expiry_bare : (Q : TimerKey → Type 0) (w : What) → in_expiry (λ key from. Q key) ⊥ w ≡ in_expiry (λ key from. Q key) ⊥ (bare_what w)
+expiry_bare Q (what.Look r) = refl
+expiry_bare Q w = refl
 
-module _ (Q : Begun → Type 0) where
-  begin_on : (w : What) → in_begin (λ b from. Q b) ⊥ w → in_begin (λ b from. Q b) ⊥ (bare_what w)
-  begin_on (what.Look r) m = m
-  begin_on w m = m
-
-  begin_off : (w : What) → in_begin (λ b from. Q b) ⊥ (bare_what w) → in_begin (λ b from. Q b) ⊥ w
-  begin_off (what.Look r) m = m
-  begin_off w m = m
-
-  begin_same : (w v : What) → bare_what w ≡ bare_what v → in_begin (λ b from. Q b) ⊥ w → in_begin (λ b from. Q b) ⊥ v
-  begin_same w v q m = begin_off v (subst (in_begin (λ b from. Q b) ⊥) q (begin_on w m))
-
-module _ (Q : TimerKey → Type 0) where
-  expiry_on : (w : What) → in_expiry (λ key from. Q key) ⊥ w → in_expiry (λ key from. Q key) ⊥ (bare_what w)
-  expiry_on (what.Look r) m = m
-  expiry_on w m = m
-
-  expiry_off : (w : What) → in_expiry (λ key from. Q key) ⊥ (bare_what w) → in_expiry (λ key from. Q key) ⊥ w
-  expiry_off (what.Look r) m = m
-  expiry_off w m = m
-
-  expiry_same : (w v : What) → bare_what w ≡ bare_what v → in_expiry (λ key from. Q key) ⊥ w → in_expiry (λ key from. Q key) ⊥ v
-  expiry_same w v q m = expiry_off v (subst (in_expiry (λ key from. Q key) ⊥) q (expiry_on w m))
+-- so like events pass it alike
+same_by : (P : What → Type 0) → ((w : What) → P w ≡ P (bare_what w)) → (w v : What) → bare_what w ≡ bare_what v → P w → P v
+same_by P bare w v q m = subst (λ (X : Type 0). X) (bare w ∙ ap P q ∙ sym (bare v)) m
 
 gone_same : (t : ThreadNo) (w v : What) → bare_what w ≡ bare_what v → w ≡ what.Gone t → v ≡ what.Gone t
 gone_same t w v q m = off v (sym q ∙ ap bare_what m)
@@ -75,14 +57,6 @@ takes_same : (t : ThreadNo) (e f : Event) → bare_event e ≡ bare_event f → 
 takes_same t e f q =
     sym (switch_bare t e.what) ∙ ap (λ (z : Event). in_switch (λ u status. u.0 == t.0) false z.what) q ∙ switch_bare t f.what
 
-or_right : (a b : Bool) → b ≡ true → (a || b) ≡ true
-or_right true b h = refl
-or_right false b h = h
-
-or_left : (a b : Bool) → a ≡ true → (a || b) ≡ true
-or_left true b h = refl
-or_left false b h = cc
-
 took_came : (t : ThreadNo) (h : List Event) → list_any (takes_thread t) h ≡ true → Came (Begin (act.Thread t)) h
 took_came t [] m = cc
 took_came t (e ∷ h) m = go (list_any (takes_thread t) h) refl (took_came t h) m
@@ -90,16 +64,12 @@ took_came t (e ∷ h) m = go (list_any (takes_thread t) h) refl (took_came t h) 
     go : (b : Bool) → list_any (takes_thread t) h ≡ b → (list_any (takes_thread t) h ≡ true → Came (Begin (act.Thread t)) h) →
         (takes_thread t e || list_any (takes_thread t) h) ≡ true → Came (Begin (act.Thread t)) (e ∷ h)
     go true q earlier m = inr (earlier q)
-    go false q earlier m = inl (left (takes_thread t e) (list_any (takes_thread t) h) q m, q)
-      where
-        left : (a b : Bool) → b ≡ false → (a || b) ≡ true → a ≡ true
-        left true b q m = refl
-        left false b q m = cc
+    go false q earlier m = inl (sym (or_only (takes_thread t e) (list_any (takes_thread t) h) q) ∙ m, q)
 
 came_took : (t : ThreadNo) (h : List Event) → Came (Begin (act.Thread t)) h → list_any (takes_thread t) h ≡ true
 came_took t [] m = absurd m
-came_took t (e ∷ h) (inl m) = or_left (takes_thread t e) (list_any (takes_thread t) h) m.0
-came_took t (e ∷ h) (inr m) = or_right (takes_thread t e) (list_any (takes_thread t) h) (came_took t h m)
+came_took t (e ∷ h) (inl m) = let q = m.0 in rw q refl
+came_took t (e ∷ h) (inr m) = or_yes (takes_thread t e) (list_any (takes_thread t) h) (came_took t h m)
 
 not_before : (t : ThreadNo) (h k : List Event) → (Came (Begin (act.Thread t)) k → Came (Begin (act.Thread t)) h) →
     list_any (takes_thread t) h ≡ false → list_any (takes_thread t) k ≡ false
@@ -122,15 +92,15 @@ matches_same x e f h k q back m = go x back m
     what_same = ap (λ (z : Event). z.what) q
 
     go : (x : Watched) → (Came x k → Came x h) → Matches x e h → Matches x f k
-    go (Note n) back m = call_same (λ c y. c ≡ _) e.what f.what what_same m
-    go Refused back m = call_same (λ c y. _ ≡ true) e.what f.what what_same m
-    go (Begin (act.Int level)) back m = begin_same _ e.what f.what what_same m
-    go (Begin (act.Dpc d)) back m = begin_same _ e.what f.what what_same m
-    go (Begin (act.Apc a)) back m = begin_same _ e.what f.what what_same m
+    go (Note n) back m = same_by _ (call_bare (λ c y. c ≡ _)) e.what f.what what_same m
+    go Refused back m = same_by _ (call_bare (λ c y. _ ≡ true)) e.what f.what what_same m
+    go (Begin (act.Int level)) back m = same_by _ (begin_bare _) e.what f.what what_same m
+    go (Begin (act.Dpc d)) back m = same_by _ (begin_bare _) e.what f.what what_same m
+    go (Begin (act.Apc a)) back m = same_by _ (begin_bare _) e.what f.what what_same m
     go (Begin (act.Thread t)) back m = (sym (takes_same t e f q) ∙ m.0, not_before t h k back m.1)
-    go (Expire t) back m = expiry_same _ e.what f.what what_same m
+    go (Expire t) back m = same_by _ (expiry_bare _) e.what f.what what_same m
     go (Gone t) back m = gone_same t e.what f.what what_same m
-    go (Call c y) back m = call_same (λ d reply. _ × _) e.what f.what what_same m
+    go (Call c y) back m = same_by _ (call_bare (λ d reply. _ × _)) e.what f.what what_same m
 
 -- so of what is watched for the same came after them
 pub came_same : (x : Watched) (e f : Event) (h k : List Event) → bare_event e ≡ bare_event f → CameAlike h k x → CameAlike (e ∷ h) (f ∷ k) x

@@ -1,6 +1,6 @@
 -- The worked row raise-queue-lower: its histories are a line, so a closed list, and what they show is computed.
-use Rattle.std.proofs.Common.{arith, inl, inr, subst}
-use Rattle.std.specs.Prelude.{List, Some, [], false, refl, suc, true, zero, ℕ, ◌∷◌, ◌≡◌, ◌⊎◌}
+use Rattle.std.proofs.Common.{inl, inr, subst}
+use Rattle.std.specs.Prelude.{List, Some, [], false, refl, true, ◌∷◌, ◌≡◌, ◌⊎◌}
 use Rattle.nt_event.specs.declared.commands.Command.TheVariants as cmd
 use Rattle.nt_event.specs.declared.commands.Reply.TheVariants.{Done}
 use Rattle.nt_event.specs.declared.events.Event.{Event}
@@ -13,20 +13,20 @@ use Rattle.nt_alike.specs.Ends.{is_quiet}
 use Rattle.nt_alike.specs.Free.{MayCome}
 use Rattle.nt_alike.specs.Lists.{Among, Each}
 use Rattle.nt_alike.specs.RaiseQueueLower.{dpc_begun, events_left, histories, rested}
-use Rattle.nt_alike.proofs.Free.{run_free}
 use Rattle.nt_alike.proofs.Line.{EndsAt, GoesTo, Line}
 use Rattle.nt_alike.proofs.Lists.{among_map}
-use Rattle.nt_alike.proofs.RaiseQueueLower.{later, line, ranked, run_rested}
+use Rattle.nt_alike.proofs.RaiseQueueLower.{later, line, ranked, run_noted}
 use Rattle.nt_alike.proofs.Relation.{alike_self}
 use Rattle.nt_alike.specs.RaiseQueueLower.{last_level}
 use Rattle.nt_expect.specs.declared.expectations.Activity.TheVariants as act
 use Rattle.nt_expect.specs.declared.expectations.Expectation.{Expectation}
-use Rattle.nt_expect.specs.declared.expectations.Expectation.TheVariants.{Always, AlwaysEnds, NeverTwice, NeverWaitsDpc}
+use Rattle.nt_expect.specs.declared.expectations.Expectation.TheVariants.{Always, AlwaysEnds, Never, NeverTwice, NeverWaitsDpc}
 use Rattle.nt_expect.specs.declared.expectations.Watched.{Watched}
 use Rattle.nt_expect.specs.declared.expectations.Watched.TheVariants.{Begin, Note}
 use Rattle.nt_expect.specs.Meaning.{ShowsAt, ShowsAtEnd}
 use Rattle.nt_verdict.specs.Closed.{AlikeWatching, CameAlike, IsClosed, LeadsTo, NoneShows}
 use Rattle.nt_verdict.specs.Row.{RowFails, RowIsClosed, RowKeeps}
+use Rattle.nt_verdict.proofs.Rounds.{shown_fails}
 use Rattle.nt_verdict.proofs.Verdicts.{tell}
 
 -- ---- a line is a closed list
@@ -148,21 +148,6 @@ keeps = (
   ),
 )
 
--- the newest of them
-newest : ℕ → List Event → List Event
-newest zero h = []
-newest (suc n) [] = []
-newest (suc n) (e ∷ h) = e ∷ newest n h
-
 pub fails : RowFails
-unfolding newest
 fails =
-    record {
-      limit = 11;
-      history = rested;
-      number = 5;
-      run = run_free script 11 rested (omega arith) run_rested;
-      looks = (tt, (tt, (tt, (tt, (tt, (tt, (tt, (tt, (tt, (tt, (tt, tt)))))))))));
-      shown =
-          inl (event 0 (Some main) 2 (Call 4 (cmd.Note 7) Done), dpc_begun, record { newer = newest 5 rested; is = refl; number = refl }, refl);
-    }
+    shown_fails script (Never (Note 7)) dpc_begun run_noted.1 (inl (event 0 (Some main) 2 (Call 4 (cmd.Note 7) Done), run_noted.0, refl))
