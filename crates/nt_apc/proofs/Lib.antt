@@ -1,3 +1,4 @@
+pub mod Fewer
 pub mod Firsts
 pub mod Inserts
 pub mod Least

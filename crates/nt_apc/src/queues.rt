@@ -1,6 +1,6 @@
 //! The queues of one thread.
 ghost use Rattle.std.specs.Bool.{OnFalse, OnTrue};
-ghost use Rattle.std.specs.Prelude.{◌≡◌, ◌<◌, IfOk, IfSome, IfNone, is_some, option_map, ℕ};
+ghost use Rattle.std.specs.Prelude.{◌≡◌, ◌<◌, IfOk, IfSome, IfNone, is_some, length, option_map, ℕ};
 ghost use Rattle.nt_event.specs.Apcs as spec;
 ghost use Rattle.nt_apc.specs.Firsts.{kind_with, may_begin as may_begin_of};
 ghost use Rattle.nt_event.specs.declared.numbers.ApcNo.{ApcNo as Apc};
@@ -48,6 +48,18 @@ impl ApcQueues {
         })
     }
 
+    /// A copy of them, with room for [`MOST_OBJECTS`] objects.
+    pub fn copy(&self, alloc: Global) -> Result<ApcQueues, AllocError>
+        ensures { IfOk result (λ q. q ≡ self.now) }
+    {
+        let mut items = Vec::with_capacity(alloc, usize::from(MOST_OBJECTS))?;
+        items.extend_from_slice(self.items.as_slice())?;
+        Ok(ApcQueues {
+            items,
+            closed: self.closed,
+        })
+    }
+
     /// Inserts the object as the newest of its kind, under the number `n` of the inserting event.
     /// False exactly where the object is inserted already or the doors are closed.
     ///
@@ -84,6 +96,7 @@ impl ApcQueues {
         ensures answer { result ≡ spec.is_inserted a self.old }
         ensures after { self.new ≡ spec.without_apc a self.old }
         ensures no { OnFalse result (self.new ≡ self.old) }
+        ensures fewer { OnTrue result (length self.new.pending < length self.old.pending) }
     {
         items::take_out(&mut self.items, a)
     }
@@ -173,6 +186,8 @@ impl ApcQueues {
         ensures answer { result ≡ option_map (λ x. (x.apc, x.number)) (spec.first_user self.old) }
         ensures after { IfSome result (λ y. self.new ≡ spec.without_apc y.0 self.old) }
         ensures none { IfNone result (self.new ≡ self.old) }
+        ensures fewer { IfSome result (λ y.
+            length self.new.pending < length self.old.pending) }
     {
         let first = self.user_first()?;
         self.take(first);

@@ -1,5 +1,5 @@
 -- What the events of the machine leave of an object and of a queue is what the calls leave.
-use Rattle.std.proofs.Common.{◌≡◌, Bool, true, false, List, ◌∷◌, Some, None, ℕ, cond, eq-eqb, eqb, nat_lt, refl, ◌+◌}
+use Rattle.std.proofs.Common.{◌≡◌, Bool, true, false, List, ◌∷◌, Some, None, ℕ, cond, eqb, nat_lt, refl, ◌+◌}
 use Rattle.nt_event.proofs.Booleans.{either_way, same}
 use Rattle.nt_event.specs.declared.commands.Command.TheVariants.{Unqueue}
 use Rattle.nt_event.specs.declared.commands.Reply.TheVariants.{Yes}

@@ -3,4 +3,5 @@ pub mod Once
 pub mod First
 pub mod Pending
 pub mod Numbered
+pub mod Fewer
 pub mod Events

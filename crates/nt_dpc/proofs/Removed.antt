@@ -1,13 +1,8 @@
 -- A list without the one element that passes a test, and the place of the first that does.
-use Rattle.std.proofs.Common.{◌≡◌, ◌≤◌, ◌<◌, ◌||◌, ℕ, Bool, true, false, cond, List, [], ◌∷◌, ◌++◌, Option, Some, None, ltb, ◌+◌, reverse, length, get_or, not}
-use Rattle.std.proofs.Common.{refl, sym, ◌∙◌, ap, append-nil, arith, suc, zero}
-use Rattle.std.specs.List.{count_by, filter, find, list_any, position, position_or_len, remove}
-use Rattle.std.specs.Option.{is_some}
+use Rattle.std.proofs.Common.{◌≡◌, ◌≤◌, ◌<◌, ℕ, Bool, true, false, cond, List, [], ◌∷◌, Some, None, ltb, ◌+◌, length, get_or, not}
+use Rattle.std.proofs.Common.{refl, sym, ap, arith, suc, zero}
+use Rattle.std.specs.List.{filter, list_any, position, position_or_len, remove}
 use Rattle.std.proofs.lemmas.Bool.{ltb-false}
-use Rattle.std.proofs.lemmas.List.Folds.{list_any-append}
-use Rattle.std.proofs.lemmas.List.{reverse-append, length-reverse}
-use Rattle.std.proofs.lemmas.List.Sums.{length-filter}
-use Rattle.std.proofs.lemmas.List.Elements.{filter-append}
 
 pub none_passes : {X : Type 0} (p : X → Bool) (xs : List X) → length (filter p xs) ≡ 0 → filter (λ x. not (p x)) xs ≡ xs
 none_passes p [] h = refl

@@ -1,5 +1,6 @@
 -- DPC objects as contracts see them.
-use Rattle.std.specs.Prelude.{Bool, None, Some, if◌then◌else◌, option_map, Option, ℕ}
+use Rattle.std.specs.Prelude.{Bool, List, None, Some, false, get_or, if◌then◌else◌, length, option_map, Option, ℕ, ◌<◌}
+use Rattle.std.specs.Prelude.{◌≡◌}
 use Rattle.nt_event.specs.declared.commands.Importance.{Importance}
 use Rattle.nt_event.specs.declared.inserts.Insert.{Insert}
 use Rattle.nt_event.specs.declared.inserts.Part.{Part}
@@ -7,6 +8,7 @@ use Rattle.nt_event.specs.declared.inserts.Part.TheVariants.{Ordinary as Ordinar
 use Rattle.nt_event.specs.declared.inserts.Standing.{Standing}
 use Rattle.nt_event.specs.declared.numbers.CpuNo.{CpuNo}
 use Rattle.nt_event.specs.declared.numbers.DpcNo.{DpcNo}
+use Rattle.nt_event.specs.Numbers.{dpc}
 use Rattle.nt_event.specs.Objects.{ObjectState, start_object}
 use Rattle.nt_event.specs.Queues.{is_high}
 
@@ -22,6 +24,14 @@ part_if threaded = if threaded then ThreadedPart else OrdinaryPart
 -- Medium, no target, not queued
 abbrev pub new_object : DpcNo → Bool → ObjectFacts
 new_object d threaded = record { dpc = d; part = part_if threaded; state = start_object }
+
+-- the object of this number in a list of objects by their numbers
+abbrev pub object_of : List ObjectFacts → DpcNo → ObjectFacts
+object_of objects d = get_or objects d.0 (new_object d false)
+
+-- each object of the list has the number of its place
+abbrev pub AreNumbered : List ObjectFacts → Type 0
+AreNumbered objects = (i : ℕ) (other : ObjectFacts) → i < length objects → (get_or objects i other).dpc ≡ dpc i
 
 -- the processor in whose queue the object stands
 abbrev pub standing_cpu : ObjectFacts → Option CpuNo

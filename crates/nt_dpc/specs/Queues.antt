@@ -1,7 +1,8 @@
 -- DPC queues as contracts see them: what calls require, answer and leave.
 use Rattle.std.specs.List.{list_any}
-use Rattle.std.specs.Prelude.{Bool, List, None, Option, Some, [], false, if◌then◌else◌, nat_lt, option_map, true, ℕ}
-use Rattle.std.specs.Prelude.{◌+◌, ◌<◌, ◌==◌, ◌≡◌, ◌∷◌}
+use Rattle.std.specs.Prelude.{Bool, List, None, Option, Some, [], false, if◌then◌else◌, length, nat_lt, option_map}
+use Rattle.std.specs.Prelude.{true}
+use Rattle.std.specs.Prelude.{ℕ, ◌+◌, ◌<◌, ◌==◌, ◌≡◌, ◌∷◌}
 use Rattle.nt_event.specs.declared.inserts.Insert.{Insert}
 use Rattle.nt_event.specs.declared.inserts.Part.{Part}
 use Rattle.nt_event.specs.declared.inserts.Part.TheVariants.{Ordinary as OrdinaryPart, Threaded as ThreadedPart}
@@ -26,6 +27,10 @@ new_queue p count limit = record { cpu = p; count = count; limit = limit; state 
 -- an entry of the object stands in the queue
 abbrev pub holds_dpc : DpcNo → List Insert → Bool
 holds_dpc d xs = list_any (is_of_dpc d) xs
+
+-- how many entries the queue has, of both parts
+abbrev pub entry_count : QueueFacts → ℕ
+entry_count q = length q.state.pending
 
 -- ---- what a change leaves of a queue's state
 

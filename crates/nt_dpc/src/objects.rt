@@ -49,6 +49,19 @@ impl DpcObject {
         }
     }
 
+    /// A copy of it.
+    pub fn copy(&self) -> DpcObject
+        ensures { result ≡ self.now }
+    {
+        DpcObject {
+            dpc: self.dpc,
+            part: self.part,
+            importance: self.importance,
+            target: self.target,
+            standing: self.standing,
+        }
+    }
+
     /// Sets the importance, which counts from the next insert on (profile). KeSetImportanceDpc.
     pub fn set_importance(&mut self, i: Importance)
         ensures { self.new ≡ record self.old { state = with_importance i self.old.state } }
@@ -82,7 +95,7 @@ impl DpcObject {
     }
 
     /// The object's number.
-    pub(crate) fn no(&self) -> DpcNo
+    pub fn no(&self) -> DpcNo
         ensures { result ≡ self.now.dpc }
     {
         self.dpc

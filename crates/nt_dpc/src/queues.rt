@@ -1,13 +1,15 @@
 //! DPC queues.
 ghost use Rattle.std.specs.List.{list_any};
 ghost use Rattle.std.specs.Bool.{OnFalse, OnTrue};
-ghost use Rattle.std.specs.Prelude.{◌≡◌, ◌<◌, ◌≤◌, false, true, is_some, length, not, IfOk, Some};
-ghost use Rattle.std.specs.Prelude.{option_map};
+ghost use Rattle.std.specs.Prelude.{◌≡◌, ◌<◌, ◌≤◌, false, true, is_some, length, not, IfNone, IfOk};
+ghost use Rattle.std.specs.Prelude.{IfSome, Some, option_map, set};
 ghost use Rattle.nt_event.specs.Objects.{is_queued};
 ghost use Rattle.nt_event.specs.Queues.{depth_of, first_dpc, is_in};
-ghost use Rattle.nt_dpc.specs.Objects.{ObjectFacts, entry_of, queued_at, unqueued};
-ghost use Rattle.nt_dpc.specs.Queues.{MayInsert, StandsHereOrNowhere, asked_class, first_entry};
-ghost use Rattle.nt_dpc.specs.Queues.{holds_dpc, new_queue, queue_with, with_entry, with_idle};
+ghost use Rattle.nt_dpc.specs.Objects.{AreNumbered, ObjectFacts, entry_of, object_of, queued_at};
+ghost use Rattle.nt_dpc.specs.Objects.{unqueued};
+ghost use Rattle.nt_dpc.specs.Queues.{MayInsert, StandsHereOrNowhere, asked_class, entry_count};
+ghost use Rattle.nt_dpc.specs.Queues.{first_entry, holds_dpc, new_queue, queue_with, with_entry};
+ghost use Rattle.nt_dpc.specs.Queues.{with_idle};
 ghost use Rattle.nt_dpc.specs.Queues.{without_entry};
 
 use crate::entries;
@@ -77,6 +79,21 @@ impl DpcQueue {
         })
     }
 
+    /// A copy of it, with room for as many objects.
+    pub fn copy(&self, alloc: Global) -> Result<DpcQueue, AllocError>
+        ensures { IfOk result (λ q. q ≡ self.now) }
+    {
+        let mut items = Vec::with_capacity(alloc, self.count as usize)?;
+        items.extend_from_slice(self.items.as_slice())?;
+        Ok(DpcQueue {
+            cpu: self.cpu,
+            count: self.count,
+            limit: self.limit,
+            idle: self.idle,
+            items,
+        })
+    }
+
     /// Inserts the object, by the processor `by` in the event `n`. KeInsertQueueDpc.
     pub fn insert(&mut self, d: &mut DpcObject, by: CpuNo, n: u64) -> Inserted
         requires place { MayInsert self.old d.old by }
@@ -90,6 +107,7 @@ impl DpcQueue {
         ensures queue { OnTrue result.yes (self.new ≡ with_entry (entry_of n d.old) self.old) }
         ensures object { OnTrue result.yes
             (d.new ≡ queued_at (record { queue = self.old.cpu; number = n }) d.old) }
+        ensures stands { OnTrue result.yes (StandsHereOrNowhere self.new d.new) }
 
         // a refusal changes nothing
         ensures same_queue { OnFalse result.yes (self.new ≡ self.old) }
@@ -148,6 +166,8 @@ impl DpcQueue {
         ensures stood { result ≡ is_queued d.old.state }
         ensures queue { self.new ≡ without_entry d.old.dpc self.old }
         ensures object { d.new ≡ unqueued d.old }
+        ensures fewer { OnTrue result (entry_count self.new < entry_count self.old) }
+        ensures stands { StandsHereOrNowhere self.new d.new }
         ensures same_queue { OnFalse result (self.new ≡ self.old) }
         ensures same_object { OnFalse result (d.new ≡ d.old) }
     {
@@ -171,6 +191,7 @@ impl DpcQueue {
     pub fn first(&self, part: Part) -> Option<(DpcNo, u64)>
         ensures value { result ≡ first_entry part self.now }
         ensures found { is_some result ≡ list_any (is_in part) self.now.state.pending }
+        ensures below { IfSome result (λ x. x.0.0 < self.now.count) }
     {
         match entries::first(self.items.as_slice(), part) {
             Some(x) => Some((x.dpc, x.number)),
@@ -185,6 +206,8 @@ impl DpcQueue {
         ensures number { first_entry part self.old ≡ Some (d.old.dpc, result) }
         ensures queue { self.new ≡ without_entry d.old.dpc self.old }
         ensures object { d.new ≡ unqueued d.old }
+        ensures fewer { entry_count self.new < entry_count self.old }
+        ensures stands { StandsHereOrNowhere self.new d.new }
     {
         let Some((first, number)) = self.first(part) else {
             unreachable!()
@@ -192,6 +215,29 @@ impl DpcQueue {
         self.take_out(first);
         d.leave();
         number
+    }
+
+    /// Takes the first entry of the part out of the queue, and its object out of this state:
+    /// `objects` has the object of each number below the queue's count, by its number. Answers the
+    /// object's number and that of the event that inserted it; None exactly where the part is
+    /// empty, and then nothing changes.
+    ///
+    /// Each entry that is taken leaves fewer, so a loop over this call ends.
+    pub fn take_first(&mut self, part: Part, objects: &mut [DpcObject]) -> Option<(DpcNo, u64)>
+        requires all { self.old.count ≤ length objects.old }
+        requires numbered { AreNumbered objects.old }
+        ensures value { result ≡ first_entry part self.old }
+        ensures queue { IfSome result (λ x. self.new ≡ without_entry x.0 self.old) }
+        ensures objects { IfSome result (λ x.
+            objects.new ≡ set objects.old x.0.0 (unqueued (object_of objects.old x.0))) }
+        ensures fewer { IfSome result (λ x. entry_count self.new < entry_count self.old) }
+        ensures numbered { AreNumbered objects.new }
+        ensures same_queue { IfNone result (self.new ≡ self.old) }
+        ensures same_objects { IfNone result (objects.new ≡ objects.old) }
+    {
+        let (first, number) = self.first(part)?;
+        self.take(part, &mut objects[usize::from(first.0)]);
+        Some((first, number))
     }
 
     /// The processor is idle from now on.

@@ -26,7 +26,7 @@ use Rattle.nt_event.specs.Replies.{kernel_apc}
 use Rattle.nt_event.proofs.Moves.{frames_move, frames_stay}
 use Rattle.nt_frame.specs.declared.calls.FrameCall.{FrameCall}
 use Rattle.nt_frame.specs.Calls.{commanded, left_by, left_by_all, unless_refused}
-use Rattle.nt_frame.specs.Changes.{acquired, advanced, at_innermost, no_frames, taken}
+use Rattle.nt_frame.specs.Changes.{advanced, at_innermost, no_frames, taken}
 use Rattle.nt_frame.specs.EventCalls.{EachIsMade, EventsAreCalls, HistoriesAreCalls, calls_in, EventSays, IsInnermost, Replies, calls_of, command_calls}
 use Rattle.nt_frame.specs.EventCalls.{rewait_calls, status_calls, switch_calls, thread_of}
 use Rattle.nt_frame.specs.Rules.{is_at_base, refusal_in}

@@ -1,7 +1,7 @@
 -- The locks that a frame holds, in the two arrays that keep them.
-use Rattle.std.proofs.Common.{◌≡◌, ℕ, zero, suc, ◌+◌, ◌-◌, ◌<◌, ◌≤◌, ◌==◌, Bool, true, false, not, ◌||◌, List, [], ◌∷◌, ◌++◌, get_or, length, reverse, set}
+use Rattle.std.proofs.Common.{◌≡◌, ℕ, zero, suc, ◌+◌, ◌-◌, ◌<◌, ◌≤◌, ◌==◌, Bool, true, false, ◌||◌, List, [], ◌∷◌, get_or, length, reverse, set}
 use Rattle.std.proofs.Common.{take}
-use Rattle.std.proofs.Common.{Some, add-one, ap, arith, refl, sym, ◌∙◌, All}
+use Rattle.std.proofs.Common.{add-one, ap, arith, refl, ◌∙◌, All}
 use Rattle.std.proofs.Math.Seq.{take-suc}
 use Rattle.std.proofs.lemmas.Bool.Decides.{nat_tests}
 use Rattle.std.proofs.lemmas.List.{get_or-set_other, get_or-set_same, length-set, reverse-append}
@@ -9,10 +9,9 @@ use Rattle.std.proofs.lemmas.List.Elements.{All-cons, All-nil, recursion_from_Al
 use Rattle.std.proofs.lemmas.Map.Keys.{IsDistinct-cons}
 use Rattle.std.proofs.lemmas.Map.Steps.{length-le_from_distinct_below}
 use Rattle.std.specs.List.{IsDistinct, list_any}
-use Rattle.std.specs.Prelude.{option_map}
 use Rattle.nt_event.specs.declared.frames.Held.{Held}
 use Rattle.nt_event.specs.declared.numbers.LockNo.{LockNo}
-use Rattle.nt_event.specs.Lists.{head_of, is_null, tail_of}
+use Rattle.nt_event.specs.Lists.{is_null, tail_of}
 use Rattle.nt_event.specs.Numbers.{lock}
 use Rattle.nt_frame.specs.HeldLocks.{AreArrays, AreLocks, held_in}
 

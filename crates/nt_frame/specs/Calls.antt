@@ -1,6 +1,6 @@
 -- Calls that change the frames of a processor, and lists of them.
 use Rattle.std.specs.Option.{ForSome}
-use Rattle.std.specs.Prelude.{IsSome, IsTrue, List, None, Option, Some, [], false, length, ◌+◌, ◌<◌, ◌==◌, ◌∷◌, ◌≡◌}
+use Rattle.std.specs.Prelude.{IsSome, IsTrue, List, None, Option, Some, [], false, length, ◌<◌, ◌==◌, ◌∷◌, ◌≡◌}
 use Rattle.nt_event.specs.declared.commands.Command.{Command}
 use Rattle.nt_event.specs.declared.commands.Command.TheVariants.{Acquire as AcquireCommand, Lower as LowerCommand}
 use Rattle.nt_event.specs.declared.commands.Command.TheVariants.{Raise as RaiseCommand, Unlock as UnlockCommand}

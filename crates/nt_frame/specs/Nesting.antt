@@ -6,7 +6,7 @@ use Rattle.nt_event.specs.declared.commands.ApcKind.TheVariants.{Normal, Special
 use Rattle.nt_event.specs.declared.frames.Body.{Body}
 use Rattle.nt_event.specs.declared.frames.Body.TheVariants.{Apc, Base, Dpc, Int, Rundown, Threaded}
 use Rattle.nt_event.specs.Frame.{Frame}
-use Rattle.nt_event.specs.Frames.{Frames, base_of, is_apc_body, is_base_body}
+use Rattle.nt_event.specs.Frames.{Frames, base_of, is_apc_body, is_base_body, thread_part}
 use Rattle.nt_event.specs.Regions.{crit_of, guard_of}
 use Rattle.nt_event.specs.Classes.{is_isr_level}
 use Rattle.nt_frame.specs.Changes.{is_own}
@@ -75,6 +75,10 @@ next_name (f ∷ fs) = f.name + 1
 -- each frame is named by a number below this one; the newest frame of a part is its innermost
 abbrev pub AreNamedBelow : ℕ → Frames → Type 0
 AreNamedBelow n x = (next_name x.own ≤ n) × All (λ fs. next_name fs ≤ n) x.threads
+
+-- how many frames are open on the processor: on its own part, and on that of the running thread
+abbrev pub frame_count : Frames → ℕ
+frame_count x = length x.own + length (thread_part x)
 
 -- each of these frames is newer than the threads'
 abbrev pub AreNewer : List Frame → List (List Frame) → Type 0

@@ -88,6 +88,27 @@ impl Frame {
         }
     }
 
+    /// A copy of it.
+    pub(crate) fn copy(&self) -> Frame
+        ensures { result ≡ self.now }
+    {
+        Frame {
+            name: self.name,
+            body: self.body,
+            level: self.level,
+            place: self.place,
+            crit: self.crit,
+            guard: self.guard,
+            kernel_phase: self.kernel_phase,
+            leaving: self.leaving,
+            again: self.again,
+            spin: self.spin,
+            count: self.count,
+            locks: self.locks,
+            kept: self.kept,
+        }
+    }
+
     /// The number of the event that began it.
     #[inline(always)]
     pub fn name(&self) -> u64

@@ -1,5 +1,5 @@
 //! The frames of one processor and its threads.
-ghost use Rattle.std.specs.Prelude.{◌≡◌, ◌<◌, ◌≤◌, ◌↔◌, ◌+◌, ◌==◌, false, not, length};
+ghost use Rattle.std.specs.Prelude.{◌≡◌, ◌<◌, ◌≤◌, ◌↔◌, ◌+◌, ◌==◌, ℕ, false, not, length};
 ghost use Rattle.std.specs.Prelude.{option_copied, option_map, IsTrue, IsSome, IsOk, IfSome, IfOk};
 ghost use Rattle.std.specs.Prelude.{IfErr, OnOk, OnErr};
 ghost use Rattle.std.specs.Option.{ForSome, option_map_or, option_or};
@@ -11,7 +11,7 @@ ghost use Rattle.nt_event.specs.Lists.{is_null, head_of};
 ghost use Rattle.nt_frame.specs.Changes.{MayChange, acquired as frame_acquired, advanced};
 ghost use Rattle.nt_frame.specs.Changes.{at_innermost, begun, changed, closed, no_frames};
 ghost use Rattle.nt_frame.specs.Changes.{without_innermost};
-ghost use Rattle.nt_frame.specs.Nesting.{AreNamedBelow, AreNested, IsThreadPart};
+ghost use Rattle.nt_frame.specs.Nesting.{AreNamedBelow, AreNested, IsThreadPart, frame_count};
 ghost use Rattle.nt_frame.specs.Rules.{KeepsNested, count_of, end_asks_apc, enter_of, is_at_base};
 ghost use Rattle.nt_frame.specs.Rules.{is_leaving, last_held_in, leave_of, may_begin, may_go_on};
 ghost use Rattle.nt_frame.specs.Rules.{refusal_in, regions_in, spinning_in};
@@ -56,7 +56,8 @@ impl Model for Frames {
 impl Frames {
     /// No frames on the processor and on this many threads, with room for all that there may be.
     pub fn new(alloc: Global, cpu: CpuNo, threads: u32) -> Result<Frames, AllocError>
-        ensures { IfOk result (λ x. x ≡ no_frames threads) }
+        ensures none { IfOk result (λ x. x ≡ no_frames threads) }
+        ensures named { IfOk result (λ x. AreNamedBelow 0 x) }
     {
         let mut parts = Vec::with_capacity(alloc, threads as usize)?;
         for _thread in 0..threads {
@@ -67,6 +68,22 @@ impl Frames {
             own: Part::new(alloc)?,
             running: None,
             threads: parts,
+        })
+    }
+
+    /// A copy of them, with room for all that there may be.
+    pub fn copy(&self, alloc: Global) -> Result<Frames, AllocError>
+        ensures { IfOk result (λ x. x ≡ self.now) }
+    {
+        let mut threads = Vec::with_capacity(alloc, self.threads.len())?;
+        for part in &self.threads {
+            threads.push(part.copy(alloc)?)?;
+        }
+        Ok(Frames {
+            cpu: self.cpu,
+            own: self.own.copy(alloc)?,
+            running: self.running,
+            threads,
         })
     }
 
@@ -220,7 +237,8 @@ impl Frames {
     pub fn begin(&mut self, body: Body, n: u64)
         requires rules { IsTrue (may_begin body self.old) }
         requires number { AreNamedBelow n self.old }
-        ensures { self.new ≡ begun n body self.old }
+        ensures begun { self.new ≡ begun n body self.old }
+        ensures named { AreNamedBelow (n + 1) self.new }
     {
         let own = is_own(&body);
         if own {
@@ -251,12 +269,14 @@ impl Frames {
         requires no_base { is_at_base self.old ≡ false }
         ensures asks { result ≡ end_asks_apc self.old }
         ensures ended { self.new ≡ without_innermost self.old }
+        ensures fewer { frame_count self.new < frame_count self.old }
+        ensures named { (n : ℕ) → AreNamedBelow n self.old → AreNamedBelow n self.new }
     {
         let Some(frame) = self.top() else {
             unreachable!()
         };
         let asks = is_normal_apc(frame.body()) || self.gives_up();
-        self.drop_innermost();
+        self.end_routine();
         asks
     }
 
@@ -265,7 +285,9 @@ impl Frames {
     pub fn end_routine(&mut self)
         requires frame { IsSome (innermost self.old) }
         requires no_base { is_at_base self.old ≡ false }
-        ensures { self.new ≡ without_innermost self.old }
+        ensures ended { self.new ≡ without_innermost self.old }
+        ensures fewer { frame_count self.new < frame_count self.old }
+        ensures named { (n : ℕ) → AreNamedBelow n self.old → AreNamedBelow n self.new }
     {
         self.drop_innermost();
     }

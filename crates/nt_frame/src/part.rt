@@ -48,6 +48,17 @@ impl<const ROOM: usize> Part<ROOM> {
         })
     }
 
+    /// A copy of it, with room for all that there may be.
+    pub(crate) fn copy(&self, alloc: Global) -> Result<Self, AllocError>
+        ensures { IfOk result (λ part. part ≡ self.now) }
+    {
+        let mut frames = Vec::with_capacity(alloc, ROOM)?;
+        for frame in &self.frames {
+            frames.push(frame.copy())?;
+        }
+        Ok(Part { frames })
+    }
+
     pub fn is_empty(&self) -> bool
         ensures { result ≡ is_null self.now }
     {

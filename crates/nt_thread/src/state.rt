@@ -1,7 +1,8 @@
 //! The state of one thread.
 ghost use Rattle.std.specs.Bool.{OnFalse, OnTrue};
 ghost use Rattle.std.specs.Prelude.{◌≡◌, ◌<◌, ◌&&◌, ◌||◌, ◌↔◌, IfOk, IfNone, IfSome, IsTrue, None};
-ghost use Rattle.std.specs.Prelude.{false, if◌then◌else◌, is_some, not, option_map, true, ℕ};
+ghost use Rattle.std.specs.Prelude.{false, if◌then◌else◌, is_some, length, not, option_map, true};
+ghost use Rattle.std.specs.Prelude.{ℕ};
 ghost use Rattle.nt_event.specs.Apcs as queues;
 ghost use Rattle.nt_event.specs.Jobs.{user_due as due_of};
 ghost use Rattle.nt_event.specs.Threads as spec;
@@ -70,6 +71,21 @@ impl ThreadState {
             released: false,
             leaving: false,
             apcs: ApcQueues::new(alloc, apcs)?,
+        })
+    }
+
+    /// A copy of it, with room for all APC objects.
+    pub fn copy(&self, alloc: Global) -> Result<ThreadState, AllocError>
+        ensures { IfOk result (λ x. x ≡ self.now) }
+    {
+        Ok(ThreadState {
+            doing: self.doing,
+            alerted_kernel: self.alerted_kernel,
+            alerted_user: self.alerted_user,
+            user_pending: self.user_pending,
+            released: self.released,
+            leaving: self.leaving,
+            apcs: self.apcs.copy(alloc)?,
         })
     }
 
@@ -581,6 +597,8 @@ impl ThreadState {
         ensures after { IfSome result
             (λ y. self.new ≡ record self.old { apcs = queues.without_apc y.0 self.old.apcs }) }
         ensures none { IfNone result (self.new ≡ self.old) }
+        ensures fewer { IfSome result (λ y.
+            length self.new.apcs.pending < length self.old.apcs.pending) }
     {
         self.apcs.flush_next()
     }

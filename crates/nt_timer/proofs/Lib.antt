@@ -1,5 +1,6 @@
 pub mod Best
 pub mod Among
+pub mod Fewer
 pub mod Order
 pub mod Numbers
 pub mod Events

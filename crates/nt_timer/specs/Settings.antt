@@ -1,9 +1,10 @@
 -- The settings of timers and delays by their keys: what calls answer and leave.
-use Rattle.std.specs.Prelude.{List, None, Option, Some, length, option_map, replicate, slice_set, ℕ, ◌<◌, ◌≤◌, ◌≡◌}
+use Rattle.std.specs.Prelude.{List, None, Option, Some, filter, length, option_map, replicate, slice_set, ℕ, ◌<◌, ◌≤◌}
+use Rattle.std.specs.Prelude.{◌≡◌}
 use Rattle.nt_event.specs.declared.commands.TimerKey.{TimerKey}
 use Rattle.nt_event.specs.declared.commands.TimerKey.TheVariants.{Delay as OfDelay, Timer as OfTimer}
 use Rattle.nt_event.specs.declared.inserts.Setting.{Setting}
-use Rattle.nt_event.specs.Timers.{Timers, first_due, renewed, setting_in}
+use Rattle.nt_event.specs.Timers.{Timers, first_due, is_due_key, renewed, set_keys, setting_in}
 
 -- time 0, nothing set
 abbrev pub new_timers : ℕ → ℕ → Timers
@@ -38,6 +39,10 @@ expired key n x = with_setting key (setting_after key n x) x
 -- the first due key and the number of the event that set it
 abbrev pub due_entry : Timers → Option (TimerKey × ℕ)
 due_entry x = option_map (λ k. (k.key, k.setting.number)) (first_due x)
+
+-- how many keys are due
+abbrev pub due_count : Timers → ℕ
+due_count x = length (filter (is_due_key x.now) (set_keys x))
 
 -- what stands past the numbers of timers and threads is not set
 abbrev pub IsNumbered : List (Option Setting) → Type 0

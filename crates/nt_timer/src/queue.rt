@@ -1,14 +1,15 @@
 //! The queue of timers and delays.
 ghost use Rattle.std.specs.Bool.{OnFalse};
 ghost use Rattle.std.specs.List.{list_any};
-ghost use Rattle.std.specs.Prelude.{◌≡◌, ◌==◌, ◌+◌, ◌-◌, ◌<◌, ◌≤◌, ◌^◌, ◌↔◌, IfOk, IsSome};
+ghost use Rattle.std.specs.Prelude.{◌≡◌, ◌==◌, ◌+◌, ◌-◌, ◌<◌, ◌≤◌, ◌^◌, ◌↔◌, IfNone, IfOk, IfSome};
+ghost use Rattle.std.specs.Prelude.{IsSome};
 ghost use Rattle.std.specs.Prelude.{MatchOption, IsTrue, None, Some, is_some, option_map, length};
 ghost use Rattle.nt_event.specs.declared.commands.TimerKey.TheVariants.{Delay as OfDelay};
 ghost use Rattle.nt_event.specs.declared.commands.TimerKey.TheVariants.{Timer as OfTimer};
 ghost use Rattle.nt_event.specs.Timers.{is_due_key, is_set_timer, renewed, set_keys, setting_in};
 ghost use Rattle.nt_timer.specs.Keys.{key_of};
 ghost use Rattle.nt_timer.specs.Place.{HasNoPlace, IsPlace};
-ghost use Rattle.nt_timer.specs.Settings.{IsKey, due_at, due_entry, expired, new_timers};
+ghost use Rattle.nt_timer.specs.Settings.{IsKey, due_at, due_count, due_entry, expired, new_timers};
 ghost use Rattle.nt_timer.specs.Settings.{setting_after, setting_at, with_setting};
 
 use crate::slots::{Slot, slot_of};
@@ -74,6 +75,16 @@ impl TimerQueue {
         let timers = timers as usize;
         let wheel = Wheel::new(alloc, timers + threads as usize)?;
         Ok(TimerQueue { timers, wheel })
+    }
+
+    /// A copy of it, with room for all timers and threads.
+    pub fn copy(&self, alloc: Global) -> Result<TimerQueue, AllocError>
+        ensures { IfOk result (λ q. q ≡ self.entry.now) }
+    {
+        Ok(TimerQueue {
+            timers: self.timers,
+            wheel: self.wheel.copy(alloc)?,
+        })
     }
 
     /// The time, in units from 0.
@@ -169,6 +180,7 @@ impl TimerQueue {
         ensures from { due_entry self.old ≡ Some (key, result.from) }
         ensures again { result.again ≡ option_map (λ x. x.due) (setting_after key n self.old) }
         ensures setting { self.new ≡ expired key n self.old }
+        ensures fewer { due_count self.new < due_count self.old }
     {
         let Some(old) = self.setting(key) else {
             unreachable!()
@@ -185,6 +197,23 @@ impl TimerQueue {
                 None => None,
             },
         }
+    }
+
+    /// Lets the first due key expire as by [`TimerQueue::expire`], by the event `n`, and answers
+    /// which it was. None exactly where nothing is due, and then nothing changes.
+    ///
+    /// Each expiry leaves fewer keys due, so a loop over this call ends.
+    pub fn expire_first(&mut self, n: u64) -> Option<(TimerKey, Expired)>
+        ensures from { option_map (λ x. (x.0, x.1.from)) result ≡ due_entry self.old }
+        ensures again { IfSome result (λ x.
+            x.1.again ≡ option_map (λ s. s.due) (setting_after x.0 n self.old)) }
+        ensures setting { IfSome result (λ x. self.new ≡ expired x.0 n self.old) }
+        ensures fewer { IfSome result (λ x. due_count self.new < due_count self.old) }
+        ensures same { IfNone result (self.new ≡ self.old) }
+    {
+        let (key, _) = self.first_due()?;
+        let expired = self.expire(key, n);
+        Some((key, expired))
     }
 
     /// The slot of the wheel in which the key stands; None exactly where the key isn't set or is

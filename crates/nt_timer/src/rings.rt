@@ -49,6 +49,17 @@ impl Rings {
         })
     }
 
+    /// A copy of them.
+    pub(crate) fn copy(&self, alloc: Global) -> Result<Rings, AllocError>
+        ensures { IfOk result (λ r. r ≡ self.entry.now) }
+    {
+        Ok(Rings {
+            next: self.next.to_vec(alloc)?,
+            previous: self.previous.to_vec(alloc)?,
+            home: self.home.to_vec(alloc)?,
+        })
+    }
+
     /// Takes the node out of its ring.
     pub(crate) fn detach(&mut self, node: usize)
         requires { (HEADS ≤ node) × (node < length self.old) }

@@ -66,6 +66,23 @@ impl Wheel {
         })
     }
 
+    /// A copy of it, with room for all keys.
+    pub(crate) fn copy(&self, alloc: Global) -> Result<Wheel, AllocError>
+        ensures { IfOk result (λ w. w ≡ self.entry.now) }
+    {
+        let settings = self.settings.to_vec(alloc)?;
+        let rings = self.rings.copy(alloc)?;
+        let mut due = Vec::with_capacity(alloc, self.settings.len())?;
+        due.extend_from_slice(self.due.as_slice())?;
+        Ok(Wheel {
+            now: self.now,
+            settings,
+            rings,
+            due,
+            lowest: self.lowest,
+        })
+    }
+
     /// The time.
     pub(crate) fn now(&self) -> u64
         ensures same { result ≡ self.entry.now.now }

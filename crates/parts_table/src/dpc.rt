@@ -21,6 +21,7 @@ pub fn answer(rt: HostRuntime, case: &str) -> io::Result<()> {
         "an object is inserted once and removed once" => once_in_and_once_out(rt),
         "a threaded dpc stands in its own part" => a_threaded_insert(rt),
         "a target decides the queue and a rest the idle mark" => targets_and_rests(rt),
+        "the first is taken until there is none" => firsts_are_taken(rt),
         _ => println!(rt; "  no such case"),
     }
 }
@@ -174,4 +175,19 @@ fn targets_and_rests(rt: HostRuntime) -> io::Result<()> {
     write_idle(rt, queue.is_idle(), " after a rest")?;
     queue.run();
     write_idle(rt, queue.is_idle(), " after a switch")
+}
+
+fn firsts_are_taken(rt: HostRuntime) -> io::Result<()> {
+    let mut queue = DpcQueue::new(rt.alloc(), OWN, 2, 4)?;
+    let mut a = DpcObject::new(DpcNo(0), false);
+    let mut b = DpcObject::new(DpcNo(1), false);
+    b.set_importance(Importance::High);
+    queue.insert(&mut a, OWN, 5);
+    queue.insert(&mut b, OWN, 6);
+    let mut objects = [a, b];
+    write_first(rt, "take", queue.take_first(Part::Ordinary, &mut objects))?;
+    write_first(rt, "take", queue.take_first(Part::Threaded, &mut objects))?;
+    write_first(rt, "take", queue.take_first(Part::Ordinary, &mut objects))?;
+    write_first(rt, "take", queue.take_first(Part::Ordinary, &mut objects))?;
+    write_standing(rt, objects[1].standing(), queue.holds(DpcNo(1)))
 }

@@ -7,4 +7,4 @@ use Rattle.lanes_table.proofs.floor.frames.Goals as goal
 
 pub begin-requires-clause-number : goal.begin-requires-clause-number
 begin-requires-clause-number c =
-    subst (λ (x : Frames). AreNamedBelow 7 x) (sym c.in_ok-frames.ensures) (below_more 0 7 (no_frames 1) (omega arith) (below_start 1))
+    subst (λ (x : Frames). AreNamedBelow 7 x) (sym c.in_ok-frames.ensures.none) (below_more 0 7 (no_frames 1) (omega arith) (below_start 1))

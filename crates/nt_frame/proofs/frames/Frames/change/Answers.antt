@@ -1,4 +1,3 @@
-use Rattle.std.proofs.Common.{sym}
 use Rattle.nt_frame.proofs.Kept.{change_on_own, change_on_thread}
 use Rattle.nt_frame.proofs.frames.Frames.change.Goals as goal
 
