@@ -74,6 +74,22 @@ impl<'s> Cpu<'s> {
         })
     }
 
+    /// A copy of it, with room for all that there may be.
+    pub fn copy(&self, alloc: Global) -> Result<Cpu<'s>, AllocError>
+        ensures { IfOk result (λ c. c ≡ self.now) }
+    {
+        Ok(Cpu {
+            script: self.script,
+            cpu: self.cpu,
+            limit: self.limit,
+            made: self.made,
+            frames: self.frames.copy(alloc)?,
+            seen: self.seen.copy(),
+            kept: self.kept.copy(),
+            due: self.due,
+        })
+    }
+
     /// What holds of it at any time, for the calls that make a step of it.
     pub(crate) fn sound(&self)
         ensures { IsSound self.now }

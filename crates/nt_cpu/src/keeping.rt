@@ -89,6 +89,19 @@ impl Kept {
         }
     }
 
+    /// A copy of it.
+    pub(crate) fn copy(&self) -> Kept
+        ensures { result ≡ self.now }
+    {
+        Kept {
+            served: self.served.copy(),
+            rested: self.rested,
+            took: self.took,
+            fire: self.fire,
+            sweep: self.sweep,
+        }
+    }
+
     /// An interrupt that begins serves its class, and that of the clock owes a sweep; another
     /// beginning leaves all. False only where what was served of interrupts is as before.
     fn begin(&mut self, begun: &Begun, seen: &Seen) -> bool

@@ -12,7 +12,6 @@ ghost use Rattle.nt_event.specs.Lists.{value_at};
 ghost use Rattle.nt_event.specs.declared.jobs.Job.{Job};
 ghost use Rattle.nt_event.specs.declared.jobs.Task.{Task};
 ghost use Rattle.nt_event.specs.Acts.{Found};
-ghost use Rattle.nt_floor.specs.Sums.{sum_of};
 ghost use Rattle.nt_floor.specs.Views.{IsUnmoved, View};
 ghost use Rattle.nt_cpu.specs.declared.steps.Local.{Local};
 ghost use Rattle.nt_cpu.specs.Steps.{Advanced, AllLooked, AreLooked, IsStepped, Knows, SeenWithin};
@@ -24,7 +23,7 @@ use crate::next::Next;
 use crate::writing::no_event;
 use nt_event::class::{COUNT, is_used};
 use nt_event::{CpuNo, Event, Job, Rises};
-use nt_floor::{Floor, Words};
+use nt_floor::{Floor, OpenFloor, Words};
 use std::alloc::AllocError;
 
 /// The classes of requests that are used are below this number.
@@ -80,14 +79,15 @@ impl<'s> Cpu<'s> {
         self.seen.is_below(answers)
     }
 
-    /// Whether one of the 16 values that have this sum, none of them below what was seen of its
-    /// class, is above it.
+    /// Whether the floor has a request for this processor that it has not seen. It has seen nothing
+    /// that the floor has no request for.
     #[inline(always)]
-    pub fn is_behind_sum(&self, sum: u128) -> bool
-        ensures { (values : ℕ → ℕ) → SeenWithin self.now.own values → sum ≡ sum_of values →
-            result ≡ is_behind self.now.own values }
+    pub fn is_behind_on<F: OpenFloor>(&self, floor: &F, p: CpuNo) -> bool
+        requires cpu { p.0 < (F.view floor.now).cpus }
+        requires seen { SeenWithin self.now.own ((F.view floor.now).value p) }
+        ensures { result ≡ is_behind self.now.own ((F.view floor.now).value p) }
     {
-        self.seen.sum() < sum
+        floor.asks_more(p, &self.seen)
     }
 
     /// Those of these values, one for each of the 16 classes, that are above what was seen; 0 for

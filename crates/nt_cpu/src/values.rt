@@ -30,6 +30,15 @@ impl Values {
         }
     }
 
+    /// A copy of them.
+    pub fn copy(&self) -> Values
+        ensures { result ≡ self.now }
+    {
+        Values {
+            values: self.values,
+        }
+    }
+
     /// The value of a class.
     pub fn get(&self, class: u8) -> u64
         requires { class < 16 }

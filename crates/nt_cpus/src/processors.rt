@@ -59,6 +59,21 @@ impl<'s> Processors<'s> {
         })
     }
 
+    /// A copy of them, with room for all that there may be.
+    pub fn copy(&self, alloc: Global) -> Result<Processors<'s>, AllocError>
+        ensures { IfOk result (λ c. c ≡ self.now) }
+    {
+        let mut cpus = Vec::with_capacity(alloc, self.cpus.len())?;
+        for cpu in &self.cpus {
+            cpus.push(cpu.copy(alloc)?)?;
+        }
+        Ok(Processors {
+            script: self.script,
+            limit: self.limit,
+            cpus,
+        })
+    }
+
     /// How many events each processor may make.
     pub fn limit(&self) -> u32
         ensures { result ≡ self.now.limit }

@@ -38,10 +38,7 @@ fn going_on<F: OpenFloor>(cpu: &Cpu, floor: &F, p: CpuNo) -> Choice<()>
 }
 
 /// What a processor does that is not cut: it looks at what was asked for, does nothing where it
-/// rests or spins still, else it goes on.
-///
-/// No more was seen than was asked for, so it is behind exactly where the sum of what was seen is
-/// below that of the requests.
+/// rests or spins still, else it goes on. It has seen no more than was asked for.
 #[inline(always)]
 fn uncut_step<F: OpenFloor>(cpu: &Cpu, floor: &F, p: CpuNo) -> Option<Choice<()>>
     requires cpu { p.0 < (F.view floor.now).cpus }
@@ -51,7 +48,7 @@ fn uncut_step<F: OpenFloor>(cpu: &Cpu, floor: &F, p: CpuNo) -> Option<Choice<()>
         option_map (step_turn p (look_values cpu.now.own ((F.view floor.now).value p))) result
         ≡ robin_at (F.script floor.now) p cpu.now.own l ((F.view floor.now).value p)) }
 {
-    if cpu.is_behind_sum(floor.asked_sum(p)) {
+    if cpu.is_behind_on(floor, p) {
         return Some(Choice::Look(()));
     }
     if cpu.is_still() {

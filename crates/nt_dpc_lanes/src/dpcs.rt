@@ -54,6 +54,17 @@ impl<'s> Dpcs<'s> {
         })
     }
 
+    /// A copy of them, with room for all that there may be.
+    pub fn copy(&self, alloc: Global) -> Result<Dpcs<'s>, AllocError>
+        ensures { IfOk result (λ x. x ≡ self.now) }
+    {
+        Ok(Dpcs {
+            script: self.script,
+            objects: making::copied_objects(alloc, self.objects.as_slice())?,
+            queues: making::copied_queues(alloc, self.queues.as_slice())?,
+        })
+    }
+
     /// Whether the object is queued.
     pub fn is_queued(&self, d: DpcNo) -> bool
         requires { IsTrue (has_dpc self.now.script d) }

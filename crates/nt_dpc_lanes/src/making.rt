@@ -33,3 +33,28 @@ pub fn queues(alloc: Global, script: &Script) -> Result<Vec<DpcQueue>, AllocErro
     }
     Ok(queues)
 }
+
+/// A copy of these objects.
+pub(crate) fn copied_objects(
+    alloc: Global,
+    objects: &[DpcObject],
+) -> Result<Vec<DpcObject>, AllocError>
+    ensures { IfOk result (λ v. v.items ≡ objects.now) }
+{
+    let mut copies = Vec::with_capacity(alloc, objects.len())?;
+    for object in objects {
+        copies.push(object.copy())?;
+    }
+    Ok(copies)
+}
+
+/// A copy of these queues, with room for all that there may be.
+pub(crate) fn copied_queues(alloc: Global, queues: &[DpcQueue]) -> Result<Vec<DpcQueue>, AllocError>
+    ensures { IfOk result (λ v. v.items ≡ queues.now) }
+{
+    let mut copies = Vec::with_capacity(alloc, queues.len())?;
+    for queue in queues {
+        copies.push(queue.copy(alloc)?)?;
+    }
+    Ok(copies)
+}

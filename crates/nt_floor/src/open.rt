@@ -1,15 +1,16 @@
 //! Floors that can be read.
 use crate::floor::Floor;
+use crate::seen::Seen;
 use nt_event::{CpuNo, ThreadNo};
 
 /// A floor that tells its states, and whose requests, marks and ready threads are read without a
 /// step of anybody, as the floor in memory.
 pub trait OpenFloor: Floor {
-    ghost use Rattle.std.specs.Prelude.{◌≡◌, ◌<◌, IfSome, Some, length, ℕ};
+    ghost use Rattle.std.specs.Prelude.{◌≡◌, ◌<◌, ◌≤◌, IfSome, Some, length, ℕ};
     ghost use Rattle.nt_event.specs.Lists.{value_at};
     ghost use Rattle.nt_event.specs.Jobs.{next_ready};
     ghost use Rattle.nt_event.specs.Lanes.{Lanes};
-    ghost use Rattle.nt_floor.specs.Sums.{sum_of};
+    ghost use Rattle.nt_floor.specs.Seen.{has_unseen};
     ghost use Rattle.nt_floor.specs.Views.{HasWord};
 
     /// The greatest requests for a processor, one for each of the 16 classes; 0 is none.
@@ -19,10 +20,12 @@ pub trait OpenFloor: Floor {
         ensures values { (c : ℕ) → c < 16 →
             value_at result.now c ≡ (Self.view self.now).value p c };
 
-    /// The sum of the greatest requests for a processor.
-    fn asked_sum(&self, p: CpuNo) -> u128
-        requires { p.0 < (Self.view self.now).cpus }
-        ensures { result ≡ sum_of ((Self.view self.now).value p) };
+    /// Whether a processor that has seen this, and nothing that it wasn't asked for, was asked for
+    /// more.
+    fn asks_more(&self, p: CpuNo, seen: &Seen) -> bool
+        requires cpu { p.0 < (Self.view self.now).cpus }
+        requires within { (c : ℕ) → c < 16 → value_at seen.now c ≤ (Self.view self.now).value p c }
+        ensures { result ≡ has_unseen seen.now ((Self.view self.now).value p) };
 
     /// Whether the event of this number was marked as asking for a class of a processor.
     fn asks(&self, n: u64, p: CpuNo, class: u8) -> bool

@@ -1,9 +1,8 @@
 //! What a processor has seen of requests.
 ghost use Rattle.std.specs.Prelude.{◌≡◌, ◌<◌, ◌==◌, ◌↔◌, ℕ, IsTrue, false, if◌then◌else◌, length};
-ghost use Rattle.std.specs.Prelude.{max, nat_lt};
-ghost use Rattle.std.specs.List.{list_any};
+ghost use Rattle.std.specs.Prelude.{max};
 ghost use Rattle.nt_event.specs.Lists.{table, value_at};
-ghost use Rattle.nt_floor.specs.Seen.{IsInterrupt, SameInterrupts};
+ghost use Rattle.nt_floor.specs.Seen.{IsInterrupt, SameInterrupts, has_unseen, unseen};
 ghost use Rattle.nt_floor.specs.Sums.{sum_of};
 
 use nt_event::{Rises, class};
@@ -44,6 +43,16 @@ impl Seen {
         Seen {
             values: [0; 16],
             sum: 0,
+        }
+    }
+
+    /// A copy of it.
+    pub fn copy(&self) -> Seen
+        ensures { result ≡ self.now }
+    {
+        Seen {
+            values: self.values,
+            sum: self.sum,
         }
     }
 
@@ -107,9 +116,7 @@ impl Seen {
     /// Whether one of these values is above that of the same class.
     pub fn is_below(&self, values: &[u64]) -> bool
         requires { length values.now ≡ 16 }
-        ensures { result ≡ list_any (λ v. nat_lt 0 v) (table 16 (λ c.
-            if nat_lt (value_at self.now c) (value_at values.now c) then value_at values.now c
-            else 0)) }
+        ensures { result ≡ has_unseen self.now (value_at values.now) }
     {
         some_above(values, &self.values)
     }
@@ -117,9 +124,7 @@ impl Seen {
     /// Which of these values are above those of the same class; 0 for the others.
     pub fn below(&self, values: &[u64]) -> Rises
         requires { length values.now ≡ 16 }
-        ensures { result.value ≡ table 16 (λ c.
-            if nat_lt (value_at self.now c) (value_at values.now c) then value_at values.now c
-            else 0) }
+        ensures { result.value ≡ unseen self.now (value_at values.now) }
     {
         let mut rises = Rises { value: [0; 16] };
         self.write_below(values, &mut rises);
@@ -129,9 +134,7 @@ impl Seen {
     /// Writes which of these values are above those of the same class; 0 for the others.
     pub fn write_below(&self, values: &[u64], rises: &mut Rises)
         requires { length values.now ≡ 16 }
-        ensures { rises.new.value ≡ table 16 (λ c.
-            if nat_lt (value_at self.now c) (value_at values.now c) then value_at values.now c
-            else 0) }
+        ensures { rises.new.value ≡ unseen self.now (value_at values.now) }
     {
         for i in 0..16 {
             rises.value[i] = if self.values[i] < values[i] {
@@ -152,9 +155,7 @@ impl Seen {
 
 fn some_above(values: &[u64], seen: &[u64; 16]) -> bool
     requires { length values.now ≡ 16 }
-    ensures { result ≡ list_any (λ v. nat_lt 0 v) (table 16 (λ c.
-        if nat_lt (value_at seen.now c) (value_at values.now c) then value_at values.now c
-        else 0)) }
+    ensures { result ≡ has_unseen seen.now (value_at values.now) }
 {
     for i in 0..16 {
         if seen[i] < values[i] {

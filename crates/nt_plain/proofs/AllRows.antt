@@ -119,6 +119,11 @@ rises_with from end row classes (m ∷ marked) h l r =
       ]
     ]
 
+-- they rise below a greater end too
+pub rises_under : (from end other : ℕ) (marked : List MarkedRow) → AreRising from end marked → end ≤ other → AreRising from other marked
+rises_under from end other [] h k = omega (arith, h, k)
+rises_under from end other (m ∷ marked) h k = (h.0, rises_under (m.row + 1) end other marked h.1 k)
+
 -- there is room for one more, where one goes in
 pub room_for : (end i row classes : ℕ) (marked : List MarkedRow) → AreRising 0 end marked → row < end → GoesAt row marked i → length marked < end
 room_for end i row classes marked h r g =

@@ -37,6 +37,17 @@ impl Locks {
         Ok(Locks { locks })
     }
 
+    /// A copy of them.
+    pub(crate) fn copy(&self, alloc: Global) -> Result<Locks, AllocError>
+        ensures { IfOk result (λ x. x ≡ self.now) }
+    {
+        let mut locks = Vec::with_capacity(alloc, self.locks.len())?;
+        for lock in &self.locks {
+            locks.push(lock.copy(alloc)?)?;
+        }
+        Ok(Locks { locks })
+    }
+
     /// The state of a lock.
     pub(crate) fn get(&self, k: LockNo) -> &SpinLock
         requires { k.0 < length self.now }

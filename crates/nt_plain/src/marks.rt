@@ -55,6 +55,18 @@ impl Marks {
         Ok(Marks { count, marked })
     }
 
+    /// A copy of them, with room for all rows.
+    pub(crate) fn copy(&self, alloc: Global) -> Result<Marks, AllocError>
+        ensures { IfOk result (λ x. x ≡ self.now) }
+    {
+        let mut marked = Vec::with_capacity(alloc, self.marked.capacity())?;
+        marked.extend_from_slice(self.marked.as_slice())?;
+        Ok(Marks {
+            count: self.count,
+            marked,
+        })
+    }
+
     /// Whether the row has the mark of a class.
     pub(crate) fn has(&self, row: usize, class: u8) -> bool
         requires row { row < length self.now }

@@ -1,7 +1,7 @@
 //! The floor in memory as one that is read.
 use crate::plain::PlainFloor;
 use nt_event::{CpuNo, ThreadNo};
-use nt_floor::OpenFloor;
+use nt_floor::{OpenFloor, Seen};
 
 impl<'s> OpenFloor for PlainFloor<'s> {
     ghost use Rattle.std.proofs.Common.{refl};
@@ -12,8 +12,10 @@ impl<'s> OpenFloor for PlainFloor<'s> {
         self.words_of(p)
     }
 
-    fn asked_sum(&self, p: CpuNo) -> u128 {
-        self.sum_of_words(p)
+    // No value seen is above that asked for, so one is below it exactly where the sums differ.
+    #[inline(always)]
+    fn asks_more(&self, p: CpuNo, seen: &Seen) -> bool {
+        seen.sum() < self.sum_of_words(p)
     }
 
     fn asks(&self, n: u64, p: CpuNo, class: u8) -> bool {

@@ -72,6 +72,20 @@ impl<'s> PlainFloor<'s> {
         })
     }
 
+    /// A copy of it, with room for as many numbers.
+    pub fn copy(&self, alloc: Global) -> Result<PlainFloor<'s>, AllocError>
+        ensures { IfOk result (λ f. f ≡ self.now) }
+    {
+        Ok(PlainFloor {
+            limit: self.limit,
+            next: self.next,
+            asked: self.asked.copy(alloc)?,
+            marks: self.marks.copy(alloc)?,
+            states: self.states.copy(alloc)?,
+            told: self.told.copy(alloc)?,
+        })
+    }
+
     /// What holds of it at any time, for the calls that speak of its parts.
     pub(crate) fn kept(&self)
         ensures { IsKept self.now }

@@ -42,6 +42,16 @@ impl RequestWords {
         Ok(RequestWords { values, sums })
     }
 
+    /// A copy of them.
+    pub(crate) fn copy(&self, alloc: Global) -> Result<RequestWords, AllocError>
+        ensures { IfOk result (λ x. x ≡ self.now) }
+    {
+        Ok(RequestWords {
+            values: self.values.to_vec(alloc)?,
+            sums: self.sums.to_vec(alloc)?,
+        })
+    }
+
     /// The word of a processor and class.
     pub(crate) fn get(&self, p: CpuNo, class: u8) -> u64
         requires { word_place p class < length self.now }

@@ -61,6 +61,19 @@ impl<'s> States<'s> {
         })
     }
 
+    /// A copy of them, with room for all that there may be.
+    pub(crate) fn copy(&self, alloc: Global) -> Result<States<'s>, AllocError>
+        ensures { IfOk result (λ x. x ≡ self.now) }
+    {
+        Ok(States {
+            script: self.script,
+            dpcs: self.dpcs.copy(alloc)?,
+            threads: self.threads.copy(alloc)?,
+            timers: self.timers.copy(alloc)?,
+            locks: self.locks.copy(alloc)?,
+        })
+    }
+
     /// What holds of them at any time, for the calls that speak of their parts.
     fn sound(&self)
         ensures { IsSound self.now }

@@ -46,6 +46,15 @@ impl ToldValues {
         Ok(ToldValues { values })
     }
 
+    /// A copy of them.
+    pub(crate) fn copy(&self, alloc: Global) -> Result<ToldValues, AllocError>
+        ensures { IfOk result (λ x. x ≡ self.now) }
+    {
+        Ok(ToldValues {
+            values: self.values.to_vec(alloc)?,
+        })
+    }
+
     /// Writes the value of a class in a row.
     pub(crate) fn put(&mut self, row: usize, class: u8, value: u64)
         requires place { row * 16 + class < length self.old }

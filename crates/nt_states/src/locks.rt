@@ -106,6 +106,16 @@ impl SpinLock {
         })
     }
 
+    /// A copy of it.
+    pub fn copy(&self, alloc: Global) -> Result<SpinLock, AllocError>
+        ensures { IfOk result (λ x. x ≡ self.now) }
+    {
+        Ok(SpinLock {
+            holder: self.holder,
+            spinners: self.spinners.to_vec(alloc)?,
+        })
+    }
+
     /// Whether no processor holds it.
     pub fn is_free(&self) -> bool
         ensures { result ≡ is_none self.now.holder }

@@ -50,6 +50,21 @@ impl<'s> Threads<'s> {
         })
     }
 
+    /// A copy of them, with room for all APC objects.
+    pub fn copy(&self, alloc: Global) -> Result<Threads<'s>, AllocError>
+        ensures { IfOk result (λ x. x ≡ self.now) }
+    {
+        let mut states = Vec::with_capacity(alloc, self.states.len())?;
+        for state in &self.states {
+            states.push(state.copy(alloc)?)?;
+        }
+        Ok(Threads {
+            script: self.script,
+            states,
+            inserted: self.inserted.to_vec(alloc)?,
+        })
+    }
+
     /// The state of a thread.
     pub(crate) fn state(&self, t: ThreadNo) -> &ThreadState
         requires { IsTrue (has_thread self.now.script t) }

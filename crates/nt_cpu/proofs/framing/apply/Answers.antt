@@ -18,7 +18,7 @@ returns-in-Begin c =
     let k = c.in-Begin in
     left_begin c.args.script.now c.args.n c.args.due c.args.event.now c.args.frames.now c.begin.new.self k.begun k.from
     (record { nested = c.requires.nested; threads = c.requires.threads; thread = c.requires.thread }) k.is
-    (c.begin.ensures ∙ ap (λ (b : Body). begun c.args.n b c.args.frames.now) c.body_of.ensures)
+    (c.begin.ensures.begun ∙ ap (λ (b : Body). begun c.args.n b c.args.frames.now) c.body_of.ensures)
 
 pub returns-in-Normal : goal.returns-in-Normal
 returns-in-Normal c =

@@ -10,6 +10,6 @@ pub invariant_of-result : goal.invariant_of-result
 invariant_of-result c = record {
   sound = sound_start c.args.script.now c.args.cpu c.args.turns c.in_ok-new.field-0 c.new-2.result c.new-3.result c.requires.script c.requires.cpu
       c.requires.turns
-      (c.in_ok-new.ensures ∙ ap (λ (n : ℕ). no_frames n) c.thread_count.ensures) c.new-2.ensures c.new-3.ensures;
+      (c.in_ok-new.ensures.none ∙ ap (λ (n : ℕ). no_frames n) c.thread_count.ensures) c.new-2.ensures c.new-3.ensures;
   due = none_due _ _ (c.new-2.ensures ∙ sym (ap (λ (k : Kept). k.served) c.new-3.ensures));
 }
