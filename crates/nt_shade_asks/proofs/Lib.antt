@@ -1,0 +1,7 @@
+pub mod Values
+pub mod LaneNumbers
+pub mod Told
+pub mod Moves
+pub mod Rows
+pub mod New
+pub mod Counts

@@ -1,0 +1,10 @@
+pub mod Followed
+pub mod Changing
+pub mod Following
+pub mod LocksFollowing
+pub mod KeyPlaces
+pub mod KeyLists
+pub mod KeysKept
+pub mod KeysAfter
+pub mod TimersFollowing
+pub mod SameLanes

@@ -1,0 +1,7 @@
+use Rattle.std.proofs.Common.{rules}
+use Rattle.std.proofs.lemmas.Fn.{filter_same}
+use Rattle.std.specs.Prelude.{not, ◌==◌}
+use Rattle.nt_shade_dpcs.proofs.queues.keep_others.Goals as goal
+
+pub returns : goal.returns
+returns c = filter_same _ (λ x. not (x.dpc.0 == c.args.d.0)) _ (λ x b q k. search rules) _ _ c.retain.ensures.filtered
