@@ -37,7 +37,7 @@ impl Model for ApcQueues {
 
 impl ApcQueues {
     /// Empty queues with open doors, and room for `count` objects and for no fewer than
-    /// [`MOST_OBJECTS`]. No later call takes memory.
+    /// [`MOST_OBJECTS`]. No later call but [`ApcQueues::copy`] takes memory.
     pub fn new(alloc: Global, count: u32) -> Result<ApcQueues, AllocError>
         ensures { IfOk result (λ q. q ≡ spec.start_apcs) }
     {

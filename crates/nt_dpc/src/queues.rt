@@ -32,7 +32,7 @@ pub struct Inserted {
 }
 
 /// The DPC queue of a processor. It has room for its objects from the start: no call but
-/// [`DpcQueue::new`] takes memory.
+/// [`DpcQueue::new`] and [`DpcQueue::copy`] takes memory.
 #[derive(Drop, Debug)]
 pub struct DpcQueue {
     cpu: CpuNo,
@@ -65,7 +65,7 @@ impl Model for DpcQueue {
 
 impl DpcQueue {
     /// An empty queue of the processor, with room for `count` objects and the depth limit `depth`.
-    /// No later call takes memory.
+    /// No later call but [`DpcQueue::copy`] takes memory.
     pub fn new(alloc: Global, cpu: CpuNo, count: u32, depth: u32) -> Result<DpcQueue, AllocError>
         ensures { IfOk result (λ q. q ≡ new_queue cpu count depth) }
     {

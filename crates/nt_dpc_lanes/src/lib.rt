@@ -4,7 +4,8 @@
 //! processors, and keeps the fact that they agree: an object stands in a queue exactly where the
 //! queue has an entry of it. Its calls tell what an event has to know before it is made: whether an
 //! object is queued, where an insert goes and what it asks for, which entry of a part comes first.
-//! [`Dpcs::leave`] makes of it what an event leaves. Only [`Dpcs::new`] takes memory.
+//! [`Dpcs::leave`] makes of it what an event leaves. Only [`Dpcs::new`] and [`Dpcs::copy`] take
+//! memory.
 //!
 //! Contracts see the script and two tables, the states of its objects and of its queues, in the
 //! words of the machine's definitions. So what `leave` leaves is by definition what the machine's

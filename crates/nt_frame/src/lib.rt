@@ -13,7 +13,8 @@
 //! innermost frame first, so each call's clause is a word of those definitions. What is kept at any
 //! time follows from the conditions of the calls alone: the frames of a part rise in rank and in
 //! number, so that a processor has at most 13 frames and a thread at most 4, and no call but
-//! [`Frames::new`] takes memory. [`perform_all`] says the same of lists of calls.
+//! [`Frames::new`] and [`Frames::copy`] takes memory. [`perform_all`] says the same of lists of
+//! calls.
 //!
 //! Sources: Windows Internals, "Interrupt request levels (IRQLs)" and "Asynchronous procedure
 //! calls"; the driver documentation, "Managing Hardware Priorities" and "Disabling APCs". Profile:

@@ -21,7 +21,7 @@ use std::marker::Model;
 
 /// The floor of a script in memory, for one thread: the next number, the request words, the marks
 /// of each event, the states of all lanes, and what each lane tells of requests. It has its room
-/// from the start: no call but [`PlainFloor::new`] takes memory.
+/// from the start: no call but [`PlainFloor::new`] and [`PlainFloor::copy`] takes memory.
 #[derive(Drop)]
 pub struct PlainFloor<'s> {
     /// How many numbers may be drawn in all.

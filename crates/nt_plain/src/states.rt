@@ -19,7 +19,7 @@ use std::alloc::{AllocError, Global};
 use std::marker::Model;
 
 /// The states of all lanes of a script. They have their room from the start: no call but
-/// [`States::new`] takes memory.
+/// [`States::new`] and [`States::copy`] takes memory.
 #[derive(Drop)]
 pub(crate) struct States<'s> {
     script: &'s Script,

@@ -56,7 +56,7 @@ impl Model for ThreadState {
 
 impl ThreadState {
     /// A thread that has not run: ready, with no flags, no APCs and open doors. Room is taken for
-    /// its `apcs` APC objects, and no later call takes memory.
+    /// its `apcs` APC objects, and no later call but [`ThreadState::copy`] takes memory.
     pub fn new(alloc: Global, apcs: u32) -> Result<ThreadState, AllocError>
         ensures { IfOk result (λ x. x ≡ spec.start_facts) }
     {

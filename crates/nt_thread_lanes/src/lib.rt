@@ -4,7 +4,7 @@
 //! [`nt_states::ThreadAnswers`] by the thread's or the APC object's number: which threads are
 //! ready, which one is next, what a wait would answer, which APC is due. [`Threads::leave`] takes
 //! in an event of a processor, and changes the state of the thread that makes it, or that it names.
-//! No call but [`Threads::new`] takes memory.
+//! No call but [`Threads::new`] and [`Threads::copy`] takes memory.
 //!
 //! Contracts see the script and the list of the threads' facts in the definitions of the machine
 //! (`nt_event`, `Threads` and `Waits`). Each call answers what they say of it, and `leave` leaves

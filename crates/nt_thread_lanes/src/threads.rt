@@ -36,7 +36,7 @@ impl<'s> Model for Threads<'s> {
 
 impl<'s> Threads<'s> {
     /// The threads of a script that fits, before any event. Room is taken for all APC objects, and
-    /// no later call takes memory.
+    /// no later call but [`Threads::copy`] takes memory.
     pub fn new(alloc: Global, script: &'s Script) -> Result<Threads<'s>, AllocError>
         requires { IsTrue (fits script.now) }
         ensures { IfOk result (λ x. x ≡ start script.now) }

@@ -37,9 +37,9 @@ pub struct Expired {
 }
 
 /// The time, and when timers and delays are due. It has room for all of them from the start: no
-/// call but [`TimerQueue::new`] takes memory. What isn't due stands in a wheel of nine levels of 64
-/// slots, so no call but [`TimerQueue::advance`] looks at keys other than its own and those that
-/// are due.
+/// call but [`TimerQueue::new`] and [`TimerQueue::copy`] takes memory. What isn't due stands in a
+/// wheel of nine levels of 64 slots, so no call but [`TimerQueue::advance`] looks at keys other than
+/// its own and those that are due.
 #[derive(Drop, Debug)]
 pub struct TimerQueue {
     /// How many timers there are. Their keys come first in the wheel, and those of the threads'
@@ -68,7 +68,8 @@ impl Model for TimerQueue {
 }
 
 impl TimerQueue {
-    /// Time 0, with nothing set, for so many timers and threads. No later call takes memory.
+    /// Time 0, with nothing set, for so many timers and threads. No later call but
+    /// [`TimerQueue::copy`] takes memory.
     pub fn new(alloc: Global, timers: u32, threads: u32) -> Result<TimerQueue, AllocError>
         ensures { IfOk result (λ q. q ≡ new_timers timers threads) }
     {

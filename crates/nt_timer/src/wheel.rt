@@ -49,7 +49,7 @@ impl Model for Wheel {
 }
 
 impl Wheel {
-    /// Time 0, with nothing set, for so many keys. No later call takes memory.
+    /// Time 0, with nothing set, for so many keys. No later call but [`Wheel::copy`] takes memory.
     pub(crate) fn new(alloc: Global, count: usize) -> Result<Wheel, AllocError>
         requires { count < 2 ^ 34 }
         ensures { IfOk result (λ w. w ≡ record { now = 0; settings = replicate count None }) }
