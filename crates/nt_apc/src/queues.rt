@@ -1,6 +1,7 @@
 //! The queues of one thread.
 ghost use Rattle.std.specs.Bool.{OnFalse, OnTrue};
-ghost use Rattle.std.specs.Prelude.{◌≡◌, ◌<◌, IfOk, IfSome, IfNone, is_some, length, option_map, ℕ};
+ghost use Rattle.std.specs.Prelude.{◌≡◌, ◌<◌, IfOk, IfSome, IfNone, is_some, length, option_map};
+ghost use Rattle.std.specs.Prelude.{reverse, ℕ};
 ghost use Rattle.nt_event.specs.Apcs as spec;
 ghost use Rattle.nt_apc.specs.Firsts.{kind_with, may_begin as may_begin_of};
 ghost use Rattle.nt_event.specs.declared.numbers.ApcNo.{ApcNo as Apc};
@@ -46,6 +47,20 @@ impl ApcQueues {
             items: Vec::with_capacity(alloc, room as usize)?,
             closed: false,
         })
+    }
+
+    /// The pending inserts of all kinds, the oldest first.
+    pub fn pending(&self) -> &[Pick]
+        ensures { reverse result.now ≡ self.now.pending }
+    {
+        self.items.as_slice()
+    }
+
+    /// Whether the doors are closed: no APC is inserted any more.
+    pub fn is_closed(&self) -> bool
+        ensures { result ≡ self.now.closed }
+    {
+        self.closed
     }
 
     /// A copy of them, with room for [`MOST_OBJECTS`] objects.

@@ -9,7 +9,7 @@ ghost use Rattle.nt_cpu.specs.Sound.{IsSound};
 
 use crate::keeping::Kept;
 use nt_event::limits::TURNS;
-use nt_event::{CpuNo, Rises, Script, ThreadNo};
+use nt_event::{CpuNo, DpcNo, Rises, Script, ThreadNo};
 use nt_floor::Seen;
 use nt_frame::Frames;
 use std::alloc::{AllocError, Global};
@@ -110,6 +110,34 @@ impl<'s> Cpu<'s> {
         ensures { result.value ≡ self.now.own.seen }
     {
         self.seen.rises()
+    }
+
+    /// Its frames and those of its threads.
+    pub fn frames(&self) -> &Frames
+        ensures { result.now ≡ self.now.own.frames }
+    {
+        &self.frames
+    }
+
+    /// Whether its last event is Rest.
+    pub fn rested(&self) -> bool
+        ensures { result ≡ self.now.own.rested }
+    {
+        self.kept.rested
+    }
+
+    /// The DPC that it has to fire, by an expiry that it made.
+    pub fn fire(&self) -> Option<DpcNo>
+        ensures { result ≡ self.now.own.fire }
+    {
+        self.kept.fire
+    }
+
+    /// Whether it owes a sweep of the timers.
+    pub fn owes_sweep(&self) -> bool
+        ensures { result ≡ self.now.own.sweep }
+    {
+        self.kept.sweep
     }
 
     /// The thread that it took up last.

@@ -74,6 +74,13 @@ impl<'s> Processors<'s> {
         })
     }
 
+    /// The processors, in the order of their numbers.
+    pub fn cpus(&self) -> &[Cpu<'s>]
+        ensures { result.now ≡ self.now.cpus }
+    {
+        self.cpus.as_slice()
+    }
+
     /// How many events each processor may make.
     pub fn limit(&self) -> u32
         ensures { result ≡ self.now.limit }

@@ -8,7 +8,7 @@ use nt_level::Level;
 /// Where an insert puts a DPC object in its queue, and whether it asks for a dispatch interrupt.
 ///
 /// Driver documentation, "KeSetImportanceDpc".
-#[derive(Clone, Copy, PartialEq, Eq, Debug)]
+#[derive(Clone, Copy, PartialEq, Eq, Hash, Debug)]
 pub enum Importance {
     /// At the back; asks only where the queue is deep or its processor idle.
     Low,
@@ -22,7 +22,7 @@ pub enum Importance {
 }
 
 /// The processor mode of a wait or an alert. Kernel is below user.
-#[derive(Clone, Copy, PartialEq, Eq, PartialOrd, Ord, Debug)]
+#[derive(Clone, Copy, PartialEq, Eq, PartialOrd, Ord, Hash, Debug)]
 pub enum Mode {
     /// Kernel mode.
     Kernel,
@@ -33,7 +33,7 @@ pub enum Mode {
 /// The kind of an APC object.
 ///
 /// Windows Internals, "Asynchronous procedure calls".
-#[derive(Clone, Copy, PartialEq, Eq, Debug)]
+#[derive(Clone, Copy, PartialEq, Eq, Hash, Debug)]
 pub enum ApcKind {
     /// A special kernel APC: a kernel routine at APC_LEVEL.
     Special,
@@ -44,7 +44,7 @@ pub enum ApcKind {
 }
 
 /// What a due time belongs to.
-#[derive(Clone, Copy, PartialEq, Eq, Debug)]
+#[derive(Clone, Copy, PartialEq, Eq, Hash, Debug)]
 pub enum TimerKey {
     /// A timer object.
     Timer(TimerNo),
@@ -197,7 +197,7 @@ pub enum Reply {
 }
 
 /// What holds back the kernel APCs of a thread.
-#[derive(Clone, Copy, PartialEq, Eq, Debug)]
+#[derive(Clone, Copy, PartialEq, Eq, Hash, Debug)]
 pub struct Regions {
     /// How often a critical region is entered and not left.
     pub crit: u32,

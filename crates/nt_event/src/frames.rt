@@ -5,7 +5,7 @@ use nt_level::Level;
 
 /// What runs in a frame. Interrupts, DPCs and threaded DPCs run on the processor's own part, the
 /// others on a thread's.
-#[derive(Clone, Copy, PartialEq, Eq, Debug)]
+#[derive(Clone, Copy, PartialEq, Eq, Hash, Debug)]
 pub enum Body {
     /// The routine of the interrupt of this level.
     Int(Level),
@@ -34,7 +34,7 @@ pub enum Region {
 }
 
 /// A wait that is to be taken up again once the kernel APC that interrupted it has run.
-#[derive(Clone, Copy, PartialEq, Eq, Debug)]
+#[derive(Clone, Copy, PartialEq, Eq, Hash, Debug)]
 pub struct Again {
     pub mode: Mode,
     pub alertable: bool,
@@ -43,7 +43,7 @@ pub struct Again {
 }
 
 /// A lock that a routine holds or spins on.
-#[derive(Clone, Copy, PartialEq, Eq, Debug)]
+#[derive(Clone, Copy, PartialEq, Eq, Hash, Debug)]
 pub struct Held {
     pub lock: LockNo,
     /// The level of just before the first try.

@@ -3,7 +3,7 @@
 use crate::{ApcKind, ApcNo, CpuNo, DpcNo};
 
 /// The two parts of a processor's DPC queue.
-#[derive(Clone, Copy, PartialEq, Eq, Debug)]
+#[derive(Clone, Copy, PartialEq, Eq, Hash, Debug)]
 pub enum Part {
     /// DPCs that run at DISPATCH_LEVEL.
     Ordinary,

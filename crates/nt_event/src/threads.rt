@@ -3,7 +3,7 @@ use crate::{Mode, Regions};
 use nt_level::Level;
 
 /// The wait or delay in which a thread is blocked.
-#[derive(Clone, Copy, PartialEq, Eq, Debug)]
+#[derive(Clone, Copy, PartialEq, Eq, Hash, Debug)]
 pub struct Waiting {
     /// The number of the event that blocked.
     pub event: u64,
@@ -18,7 +18,7 @@ pub struct Waiting {
 }
 
 /// What a thread is doing.
-#[derive(Clone, Copy, PartialEq, Eq, Debug)]
+#[derive(Clone, Copy, PartialEq, Eq, Hash, Debug)]
 pub enum Doing {
     /// It may be taken up.
     Ready {

@@ -1,10 +1,11 @@
 -- The locks that a frame holds, in the two arrays that keep them.
 use Rattle.std.proofs.Common.{◌≡◌, ℕ, zero, suc, ◌+◌, ◌-◌, ◌<◌, ◌≤◌, ◌==◌, Bool, true, false, ◌||◌, List, [], ◌∷◌, get_or, length, reverse, set}
-use Rattle.std.proofs.Common.{take}
+use Rattle.std.proofs.Common.{take, ◌≢◌}
 use Rattle.std.proofs.Common.{add-one, ap, arith, refl, ◌∙◌, All}
 use Rattle.std.proofs.Math.Seq.{take-suc}
 use Rattle.std.proofs.lemmas.Bool.Decides.{nat_tests}
-use Rattle.std.proofs.lemmas.List.{get_or-set_other, get_or-set_same, length-set, reverse-append}
+use Rattle.std.proofs.lemmas.Bool.{eqb-true}
+use Rattle.std.proofs.lemmas.List.{get_or-reverse, get_or-set_other, get_or-set_same, length-set, reverse-append}
 use Rattle.std.proofs.lemmas.List.Elements.{All-cons, All-nil, recursion_from_All}
 use Rattle.std.proofs.lemmas.Map.Keys.{IsDistinct-cons}
 use Rattle.std.proofs.lemmas.Map.Steps.{length-le_from_distinct_below}
@@ -42,6 +43,33 @@ held_last (suc n) ls ks h = let e : suc n - 1 ≡ n = omega arith in rw e refl
 pub held_null : (n : ℕ) (ls ks : List ℕ) → is_null (held_in n ls ks) ≡ (n == 0)
 held_null zero ls ks = refl
 held_null (suc n) ls ks = grind (arith, nat_tests)
+
+-- each of them by its place in the arrays
+held_at : (n i : ℕ) (ls ks : List ℕ) (other : Held) → i < n →
+    get_or (held_in n ls ks) (n - 1 - i) other ≡ record { lock = lock (get_or ls i 0); kept = get_or ks i 0 }
+held_at zero i ls ks other h = absurd (omega (arith, h))
+held_at (suc n) i ls ks other h = here (i == n) refl (held_at n i ls ks other)
+  where
+    here : (b : Bool) → (i == n) ≡ b →
+        (i < n → get_or (held_in n ls ks) (n - 1 - i) other ≡ record { lock = lock (get_or ls i 0); kept = get_or ks i 0 }) →
+        get_or (held_in (suc n) ls ks) (suc n - 1 - i) other ≡ record { lock = lock (get_or ls i 0); kept = get_or ks i 0 }
+    here true k before =
+        let e : i ≡ n = eqb-true i n k in
+        let z : suc n - 1 - i ≡ 0 = omega (arith, e) in
+        rw (z, e) refl
+    here false k before =
+        let j : i ≢ n = grind (arith, nat_tests) in
+        let l : i < n = omega (arith, h, j) in
+        let z : suc n - 1 - i ≡ suc (n - 1 - i) = omega (arith, l) in
+        rw z (before l)
+
+-- the one at this place, in the order in which they were acquired
+pub held_place : (n i : ℕ) (ls ks : List ℕ) (other : Held) → i < n →
+    get_or (reverse (held_in n ls ks)) i other ≡ record { lock = lock (get_or ls i 0); kept = get_or ks i 0 }
+held_place n i ls ks other h =
+    let l = length-held n ls ks in
+    get_or-reverse (held_in n ls ks) i other (omega (arith, h, l))
+    ∙ (ap (λ (m : ℕ). get_or (held_in n ls ks) (m - 1 - i) other) l ∙ held_at n i ls ks other h)
 
 -- the lock is among them
 pub held_has : (k n : ℕ) (ls ks : List ℕ) → n ≤ length ls → list_any (λ l. l == k) (reverse (take n ls)) ≡ list_any (λ h. h.lock.0 == k) (held_in n ls ks)

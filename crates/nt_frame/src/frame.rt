@@ -1,7 +1,9 @@
 //! One frame, and what becomes of it.
 ghost use Rattle.std.specs.List.{list_any};
-ghost use Rattle.std.specs.Prelude.{◌≡◌, ◌<◌, ◌==◌, None, false, not, option_map, reverse};
+ghost use Rattle.std.specs.Prelude.{◌≡◌, ◌<◌, ◌==◌, None, false, get_or, length, not, option_map};
+ghost use Rattle.std.specs.Prelude.{reverse};
 ghost use Rattle.nt_event.specs.Commands.{holds as holds_lock, is_last as is_last_lock};
+ghost use Rattle.nt_event.specs.declared.frames.Held.{Held as HeldLock};
 ghost use Rattle.nt_event.specs.Frames.{base_level as base_level_of, base_of};
 ghost use Rattle.nt_event.specs.Frames.{freed_level as level_freed, is_apc_body, is_base_body};
 ghost use Rattle.nt_event.specs.Frames.{kept_in, new_frame as made_frame};
@@ -198,6 +200,25 @@ impl Frame {
         ensures { result ≡ self.now.spin }
     {
         self.spin
+    }
+
+    /// How many locks it holds.
+    pub fn held_count(&self) -> usize
+        ensures { result ≡ length self.now.held }
+    {
+        self.count
+    }
+
+    /// The lock at this place among those that it holds, in the order in which it acquired them,
+    /// from 0, and the level kept with it.
+    pub fn held(&self, place: usize) -> Held
+        requires { place < length self.now.held }
+        ensures { (other : HeldLock) → result ≡ get_or (reverse self.now.held) place other }
+    {
+        Held {
+            lock: LockNo(u16::from(self.locks[place])),
+            kept: self.kept[place],
+        }
     }
 
     /// Whether it holds a lock.

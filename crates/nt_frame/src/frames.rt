@@ -1,6 +1,6 @@
 //! The frames of one processor and its threads.
 ghost use Rattle.std.specs.Prelude.{◌≡◌, ◌<◌, ◌≤◌, ◌↔◌, ◌+◌, ◌==◌, ℕ, false, not, length};
-ghost use Rattle.std.specs.Prelude.{option_copied, option_map, IsTrue, IsSome, IsOk, IfSome, IfOk};
+ghost use Rattle.std.specs.Prelude.{option_copied, option_map, reverse, IsTrue, IsSome, IsOk, IfSome, IfOk};
 ghost use Rattle.std.specs.Prelude.{IfErr, OnOk, OnErr};
 ghost use Rattle.std.specs.Option.{ForSome, option_map_or, option_or};
 ghost use Rattle.nt_event.specs.Frames.{thread_part, done_to, frames_in, freed, innermost};
@@ -85,6 +85,28 @@ impl Frames {
             running: self.running,
             threads,
         })
+    }
+
+    /// The frames on the processor's own part, the outermost first.
+    pub fn own(&self) -> &[Frame]
+        ensures { reverse result.now ≡ self.now.own }
+    {
+        self.own.frames()
+    }
+
+    /// How many threads there are.
+    pub fn thread_count(&self) -> usize
+        ensures { result ≡ length self.now.threads }
+    {
+        self.threads.len()
+    }
+
+    /// The frames of a thread, the outermost first.
+    pub fn of_thread(&self, t: ThreadNo) -> &[Frame]
+        requires { t.0 < length self.now.threads }
+        ensures { reverse result.now ≡ frames_in self.now.threads t }
+    {
+        self.threads[t.0 as usize].frames()
     }
 
     /// The thread that runs.

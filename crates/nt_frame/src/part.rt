@@ -59,6 +59,13 @@ impl<const ROOM: usize> Part<ROOM> {
         Ok(Part { frames })
     }
 
+    /// The frames, the outermost first.
+    pub fn frames(&self) -> &[Frame]
+        ensures { reverse result.now ≡ self.now }
+    {
+        self.frames.as_slice()
+    }
+
     pub fn is_empty(&self) -> bool
         ensures { result ≡ is_null self.now }
     {

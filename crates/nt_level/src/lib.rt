@@ -11,7 +11,7 @@
 use std::marker::Model;
 
 /// An interrupt request level of x64: a number of 0 to 15. Levels are ordered by their numbers.
-#[derive(Clone, Copy, PartialEq, Eq, PartialOrd, Ord, Debug)]
+#[derive(Clone, Copy, PartialEq, Eq, PartialOrd, Ord, Hash, Debug)]
 pub struct Level {
     number: u8,
 }

@@ -20,3 +20,4 @@ mod states;
 mod told;
 
 pub use plain::PlainFloor;
+pub use states::States;

@@ -5,7 +5,7 @@ ghost use Rattle.nt_event.specs.Jobs.{next_ready};
 ghost use Rattle.nt_event.specs.Script.{fits};
 ghost use Rattle.nt_floor.specs.Sums.{sum_of};
 ghost use Rattle.nt_floor.specs.Views.{HasWord};
-ghost use Rattle.nt_plain.specs.Made.{IsKept, drawn, marked};
+ghost use Rattle.nt_plain.specs.Made.{IsKept, drawn, marked, states_of};
 ghost use Rattle.nt_plain.specs.States.{IsFresh, view_of};
 
 use crate::marks::Marks;
@@ -16,6 +16,7 @@ use crate::told::ToldValues;
 use nt_event::limits::{EVENTS, TURNS};
 use nt_event::{CpuNo, Script, ThreadNo};
 use nt_states::{LaneAnswers, ThreadAnswers};
+use nt_thread_lanes::Threads;
 use std::alloc::{AllocError, Global};
 use std::marker::Model;
 
@@ -84,6 +85,20 @@ impl<'s> PlainFloor<'s> {
             states: self.states.copy(alloc)?,
             told: self.told.copy(alloc)?,
         })
+    }
+
+    /// The states of the threads.
+    pub fn threads(&self) -> &Threads<'s>
+        ensures { result.now.facts ≡ self.now.lanes.threads }
+    {
+        self.states.threads()
+    }
+
+    /// The states of all lanes, which answer what an event asks for and which lanes it touches.
+    pub fn states(&self) -> &States<'s>
+        ensures { result.now ≡ states_of self.now }
+    {
+        &self.states
     }
 
     /// What holds of it at any time, for the calls that speak of its parts.

@@ -21,7 +21,7 @@ use std::marker::Model;
 /// The states of all lanes of a script. They have their room from the start: no call but
 /// [`States::new`] and [`States::copy`] takes memory.
 #[derive(Drop)]
-pub(crate) struct States<'s> {
+pub struct States<'s> {
     script: &'s Script,
     dpcs: Dpcs<'s>,
     threads: Threads<'s>,

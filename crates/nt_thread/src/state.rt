@@ -614,6 +614,34 @@ impl ThreadState {
 
     // ---- questions, for a caller that asks and leaves the state as it is
 
+    /// What it is doing.
+    pub fn doing(&self) -> &Doing
+        ensures { result.now ≡ self.now.doing }
+    {
+        &self.doing
+    }
+
+    /// Its APCs.
+    pub fn apcs(&self) -> &ApcQueues
+        ensures { result.now ≡ self.now.apcs }
+    {
+        &self.apcs
+    }
+
+    /// Whether its user-pending mark is set.
+    pub fn user_pending(&self) -> bool
+        ensures { result ≡ self.now.user_pending }
+    {
+        self.user_pending
+    }
+
+    /// Whether its released mark is set.
+    pub fn was_released(&self) -> bool
+        ensures { result ≡ self.now.released }
+    {
+        self.released
+    }
+
     /// The status of the wait that ended, which the next [`ThreadState::resume`] answers; None at
     /// the first run, after a yield, and where the thread is not ready.
     pub fn status(&self) -> Option<u32>

@@ -65,6 +65,13 @@ impl<'s> Threads<'s> {
         })
     }
 
+    /// The states of all threads, in the order of their numbers.
+    pub fn states(&self) -> &[ThreadState]
+        ensures { result.now ≡ self.now.facts }
+    {
+        self.states.as_slice()
+    }
+
     /// The state of a thread.
     pub(crate) fn state(&self, t: ThreadNo) -> &ThreadState
         requires { IsTrue (has_thread self.now.script t) }
