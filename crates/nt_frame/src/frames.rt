@@ -1,7 +1,7 @@
 //! The frames of one processor and its threads.
 ghost use Rattle.std.specs.Prelude.{◌≡◌, ◌<◌, ◌≤◌, ◌↔◌, ◌+◌, ◌==◌, ℕ, false, not, length};
-ghost use Rattle.std.specs.Prelude.{option_copied, option_map, reverse, IsTrue, IsSome, IsOk, IfSome, IfOk};
-ghost use Rattle.std.specs.Prelude.{IfErr, OnOk, OnErr};
+ghost use Rattle.std.specs.Prelude.{option_copied, option_map, IsTrue, IsSome, IsOk, IfSome, IfOk};
+ghost use Rattle.std.specs.Prelude.{IfErr, OnOk, OnErr, reverse};
 ghost use Rattle.std.specs.Option.{ForSome, option_map_or, option_or};
 ghost use Rattle.nt_event.specs.Frames.{thread_part, done_to, frames_in, freed, innermost};
 ghost use Rattle.nt_event.specs.Frames.{is_on_thread as on_thread_part, ended_base, level_in};

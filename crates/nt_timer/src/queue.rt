@@ -38,8 +38,8 @@ pub struct Expired {
 
 /// The time, and when timers and delays are due. It has room for all of them from the start: no
 /// call but [`TimerQueue::new`] and [`TimerQueue::copy`] takes memory. What isn't due stands in a
-/// wheel of nine levels of 64 slots, so no call but [`TimerQueue::advance`] looks at keys other than
-/// its own and those that are due.
+/// wheel of nine levels of 64 slots, so no call but [`TimerQueue::advance`] looks at keys other
+/// than its own and those that are due.
 #[derive(Drop, Debug)]
 pub struct TimerQueue {
     /// How many timers there are. Their keys come first in the wheel, and those of the threads'
