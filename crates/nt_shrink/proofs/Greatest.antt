@@ -4,8 +4,8 @@ use Rattle.std.proofs.lemmas.Bool.Decides.{nat_tests}
 use Rattle.std.proofs.lemmas.Bool.{eqb-true}
 use Rattle.std.proofs.Math.ListN.{get_or-eq_default}
 use Rattle.std.specs.Prelude.{Bool, List, None, Some, false, get_or, if◌then◌else◌, length, refl, suc, true, zero, ℕ, ◌<◌, ◌==◌, ◌≡◌, ◌≢◌}
+use Rattle.nt_shrink.specs.Searches.{IsMissed}
 use Rattle.nt_shrink.specs.Spare.{greatest_below}
-use Rattle.nt_shrink.specs.Twins.{IsTwin}
 
 -- where none passes, each fails
 pub none_passes : (test : ℕ → Bool) (n : ℕ) → greatest_below test n ≡ None → (at : ℕ) → at < n → test at ≡ false
@@ -43,11 +43,6 @@ passes_here test n m h f =
     ap (greatest_below test) h ∙ ap (λ (b : Bool). if b then Some m else greatest_below test m) f
 
 -- ---- a scan from the back that passes over twins
-
--- every place from this number on failed, so that a twin of it fails too
-pub record IsMissed (test : ℕ → Bool) (n : ℕ) (twins : List Bool) (count : ℕ) : Type 0 where
-  pub left : greatest_below test n ≡ greatest_below test count
-  pub missed : IsTwin twins count → test count ≡ false
 
 pub missed_first : (test : ℕ → Bool) (n : ℕ) (twins : List Bool) → length twins ≡ n → IsMissed test n twins n
 missed_first test n twins h = record {

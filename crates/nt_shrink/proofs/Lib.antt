@@ -4,5 +4,6 @@ pub mod Greatest
 pub mod Runs
 pub mod Shrunk
 pub mod Taking
-pub mod Trials
+pub mod Machines
+pub mod Halves
 pub mod Pairs

@@ -3,5 +3,7 @@ pub mod Traces
 pub mod Shorter
 pub mod Twins
 pub mod Spare
+pub mod Machines
+pub mod Searches
 pub mod Refusals
 pub mod Laws

@@ -8,10 +8,11 @@
 mod goals;
 mod laws;
 mod leaving;
+mod machine;
 mod refusals;
+mod searching;
 mod shrinking;
 mod tracing;
-mod trying;
 mod twins;
 
 pub use goals::{Goal, delivers};

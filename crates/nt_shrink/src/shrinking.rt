@@ -9,16 +9,53 @@ ghost use Rattle.nt_shrink.specs.Spare.{IsShrunk, NoneSpare, greatest_spare};
 use crate::goals::{Goal, delivers};
 use crate::leaving::copy_without;
 use crate::refusals::ShrinkRefusal;
+use crate::searching::Places;
 use crate::tracing::trace;
-use crate::trying::is_spare;
 use crate::twins::Twins;
-use nt_event::Script;
 use nt_event::limits::{EVENTS, TURNS};
-use nt_history::Turns;
+use nt_event::{Script, Turn};
+use nt_history::{Turns, no_turn};
 use std::alloc::{AllocError, Global};
 
 /// Turns of a list that is shrunk, at most.
 pub const MOST_TURNS: usize = 1_000;
+
+/// The turns of a list. An error is want of memory.
+fn turns_of(alloc: Global, list: &Turns) -> Result<Vec<Turn>, AllocError>
+    ensures { IfOk result (λ turns. turns.items ≡ list.now) }
+{
+    let mut turns = Vec::with_capacity(alloc, list.len())?;
+    let mut walk = list.walk();
+    let mut turn = no_turn();
+    while walk.next(&mut turn) {
+        turns.push(turn)?;
+    }
+    Ok(turns)
+}
+
+/// The greatest spare place of the list. An error is want of memory.
+fn spare_place(
+    alloc: Global,
+    script: &Script,
+    turns: u32,
+    list: &Turns,
+    goal: Goal,
+) -> Result<Option<u32>, AllocError>
+    requires script { IsTrue (fits script.now) }
+    requires turns { (1 ≤ turns) × (turns ≤ TURNS) }
+    requires all { script.now.cpus * turns ≤ EVENTS }
+    requires few { length list.now ≤ MOST_TURNS }
+    ensures { IfOk result (λ at. at ≡ greatest_spare script.now turns goal list.now) }
+{
+    let all = turns_of(alloc, list)?;
+    let twins = Twins::of(alloc, list)?;
+    let places = Places {
+        turns: all.as_slice(),
+        twins: &twins,
+        goal,
+    };
+    places.search(alloc, script, turns)
+}
 
 /// The list without its greatest spare place; None where none is spare. An error is want of memory.
 fn shortened(
@@ -36,18 +73,13 @@ fn shortened(
         ≡ option_map (λ at. list_without at list.now)
         (greatest_spare script.now turns goal list.now)) }
 {
-    let twins = Twins::of(alloc, list)?;
-    let mut count = list.len() as u32;
-    while 0 < count {
-        let at = count - 1;
-        // A twin of the place after it isn't spare, since that one isn't.
-        if !twins.has(count as usize) && is_spare(alloc, script, turns, list, at, goal)? {
+    match spare_place(alloc, script, turns, list, goal)? {
+        Some(at) => {
             let shorter = copy_without(alloc, list, at)?;
-            return Ok(Some(shorter));
+            Ok(Some(shorter))
         }
-        count = at;
+        None => Ok(None),
     }
-    Ok(None)
 }
 
 /// A short list of turns that still delivers the request: the greatest spare place of the list is
