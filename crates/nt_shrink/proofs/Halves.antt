@@ -7,7 +7,8 @@ use Rattle.std.proofs.lemmas.List.{length-take-le, take-append-drop, take_rest}
 use Rattle.std.specs.declared.alloc.AllocError.{AllocError}
 use Rattle.std.specs.Bool.{then_some}
 use Rattle.std.specs.List.{slice_range}
-use Rattle.std.specs.Prelude.{Bool, Err, IfOk, List, None, Ok, Option, Result, Some, [], drop, false, if◌then◌else◌, is_some, length, map, refl, suc, take, true, zero, ℕ}
+use Rattle.std.specs.Prelude.{Bool, Err, IfOk, List, None, Ok, Option, Result, Some, [], drop, false, if◌then◌else◌, is_some, length, map, refl, suc, take}
+use Rattle.std.specs.Prelude.{true, zero, ℕ}
 use Rattle.std.specs.Prelude.{◌++◌, ◌+◌, ◌-◌, ◌<◌, ◌==◌, ◌≡◌, ◌≢◌, ◌≤◌}
 use Rattle.nt_event.specs.declared.events.Event.{Event}
 use Rattle.nt_event.specs.declared.events.Turn.{Turn}
@@ -111,7 +112,8 @@ missed_twins test n twins low high o h together each = go (low == high) refl
         let other : low ≢ high = grind (arith, nat_tests) in
         let below : low < high = omega (arith, o, other) in
         let last : test high ≡ false = h.missed (each high below (omega arith)) in
-        let d = down test n twins (high - low) low high (omega (arith, o)) (λ k a b. together k (each (suc k) (omega (arith, a)) (omega (arith, b)))) last h.left in
+        let d =
+        down test n twins (high - low) low high (omega (arith, o)) (λ k a b. together k (each (suc k) (omega (arith, a)) (omega (arith, b)))) last h.left in
         record { left = d.0; missed = λ t. d.1 }
 
 -- where each number from mid on fails, none of them is the answer

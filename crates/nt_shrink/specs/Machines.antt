@@ -36,7 +36,8 @@ pub record RefusesOne (s : Script) (limit : ℕ) (t : Turn) (past : List Event) 
   pub refused : step s limit t past ≡ Err kind
 
 -- after this past each of the turns gives an event, and the machine made them
-pub record AreTaken (s : Script) (limit : ℕ) (g : Goal) (list : List Turn) (past : List Event) (m : Machine) : Type 0 where
+pub record AreTaken (s : Script) (limit : ℕ) (g : Goal) (list : List Turn)
+    (past : List Event) (m : Machine) : Type 0 where
   pub end : List Event
   pub traced_is : traced_from s limit past list ≡ Ok end
   pub took : Took s limit g end m

@@ -96,7 +96,8 @@ impl<'s> Machine<'s> {
         requires { IsSound goal self.old }
         ensures { (s : TheScript) (limit : ℕ) (past : List Event) →
             Took s limit goal past self.old →
-            result ≡ is_delivered goal (traced_from s limit past (map (turn_without at) later.now)) }
+            result
+            ≡ is_delivered goal (traced_from s limit past (map (turn_without at) later.now)) }
     {
         for turn in later {
             let mut lessened = *turn;

@@ -16,7 +16,8 @@ returns-then-not-take c s limit past h =
     let no : c.take.result ≡ false = (let y = c.if-not-take.true in cc) in
     let l = length-map c.args.later.now (turn_without c.args.at) in
     let more : c.loop-turn.turn-index < length shorter = omega (arith, l, c.loop-turn-test.true) in
-    undelivered s limit c.args.goal shorter past (refused_next s limit c.args.goal shorter c.loop-turn.turn-index c.lessen.new.turn c.lessen.new.turn past c.loop-turn.self more
+    undelivered s limit c.args.goal shorter past
+    (refused_next s limit c.args.goal shorter c.loop-turn.turn-index c.lessen.new.turn c.lessen.new.turn past c.loop-turn.self more
     (c.lessen.ensures ∙ sym (get_or-map (turn_without c.args.at) c.args.later.now c.loop-turn.turn-index _ _ c.loop-turn-test.true)) a
     (c.take.ensures.refused no s limit a.end a.took))
 

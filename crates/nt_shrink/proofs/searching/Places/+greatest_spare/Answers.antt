@@ -1,5 +1,6 @@
 use Rattle.std.proofs.Common.{arith, length, suc, sym, ◌+◌, ◌-◌, ◌/◌, ◌≡◌, ◌∙◌, subst}
-use Rattle.nt_shrink.proofs.Halves.{fail_together, found_later, half_taken, missed_half, missed_twins, none_later, not_found, one_place, refused_before, spare_last}
+use Rattle.nt_shrink.proofs.Halves.{fail_together, found_later, half_taken, missed_half, missed_twins, none_later, not_found, one_place, refused_before}
+use Rattle.nt_shrink.proofs.Halves.{spare_last}
 use Rattle.nt_shrink.proofs.Machines.{sound}
 use Rattle.nt_shrink.specs.Machines.{Took}
 use Rattle.nt_shrink.specs.Searches.{IsAnswer, IsMissed}
@@ -62,7 +63,8 @@ returns-then-is_some t c s limit taken missed =
     (fail_together s limit c.args.self.now.goal list twins c.requires.twins) c.before_twins-high.ensures.twins in
     elim c.if-take_all.branch [
       | then-take_all+in_ok-found w ↦
-          let half = half_taken s limit c.args.self.now.goal list c.args.low mid c.args.machine.now c.in_ok-later.later c.take_all.new.self c.in_ok-later.ensures
+          let half =
+          half_taken s limit c.args.self.now.goal list c.args.low mid c.args.machine.now c.in_ok-later.later c.take_all.new.self c.in_ok-later.ensures
           taken (omega arith) (omega (arith, from, to, places)) (c.take_all.ensures.taken (let y = w.if-take_all.true in cc) s limit) in
           found_later test (length list) twins c.args.low mid c.if-take_all.found (sym c.is_some.ensures ∙ c.if-is_some.true)
           (subst (IsAnswer test (length list) twins mid) (sym w.found-is) (w.in_ok-found.ensures s limit half here))
@@ -85,7 +87,8 @@ returns t c s limit taken missed =
     (fail_together s limit c.args.self.now.goal list twins c.requires.twins) c.before_twins-high.ensures.twins in
     let half : IsMissed test (length list) twins mid = elim c.if-take_all.branch [
       | then-take_all+in_ok-found w ↦
-          let half = half_taken s limit c.args.self.now.goal list c.args.low mid c.args.machine.now c.in_ok-later.later c.take_all.new.self c.in_ok-later.ensures
+          let half =
+          half_taken s limit c.args.self.now.goal list c.args.low mid c.args.machine.now c.in_ok-later.later c.take_all.new.self c.in_ok-later.ensures
           taken (omega arith) (omega (arith, from, to, places)) (c.take_all.ensures.taken (let y = w.if-take_all.true in cc) s limit) in
           none_later test (length list) twins mid c.if-take_all.found (sym c.is_some.ensures ∙ c.if-is_some.false)
           (subst (IsAnswer test (length list) twins mid) (sym w.found-is) (w.in_ok-found.ensures s limit half here))
@@ -93,6 +96,7 @@ returns t c s limit taken missed =
           let no = c.take_all.ensures.refused (let y = w.if-take_all.false in cc) s limit taken.end
           (subst (Took s limit c.args.self.now.goal taken.end) (sym c.in_ok-later.ensures) taken.took) in
           missed_half test (length list) twins mid high (omega (arith, from, other, last)) here
-          (λ at a b. refused_before s limit c.args.self.now.goal list c.args.low mid c.args.machine.now taken no (omega arith) at a (omega (arith, b, to, places)))
+          (λ at a b.
+          refused_before s limit c.args.self.now.goal list c.args.low mid c.args.machine.now taken no (omega arith) at a (omega (arith, b, to, places)))
     ] in
     c.greatest_spare-2.ensures s limit taken half

@@ -16,4 +16,5 @@ returns c =
     let test = is_spare c.args.script.now c.args.turns g list in
     let twins = c.args.self.now.twins.now.flags.items in
     whole_search test (length list) twins c.greatest_spare.result (c.greatest_spare.ensures c.args.script.now c.args.turns
-    (taken_none c.args.script.now c.args.turns g [] c.in_ok-machine.machine (c.in_ok-machine.ensures g)) (missed_first test (length list) twins c.requires.length))
+    (taken_none c.args.script.now c.args.turns g [] c.in_ok-machine.machine (c.in_ok-machine.ensures g))
+    (missed_first test (length list) twins c.requires.length))
