@@ -14,6 +14,7 @@ use Rattle.nt_shade.specs.Threads.{pick_said, thread_said}
 use Rattle.nt_shade.proofs.Lists.{Says, lists_same}
 use Rattle.nt_shade.proofs.SameParts.{again_same, body_same, doing_same, flag_same, held_same, kind_same}
 
+-- pending inserts of APCs are the same
 pick_same : Same pick_eq.ghosts.eq
 pick_same x y h =
     let a = both _ _ h in
@@ -21,6 +22,7 @@ pick_same x y h =
     let kinds = kind_same x.kind y.kind a.1 in
     λ i. record { apc = apcs i; kind = kinds i }
 
+-- threads
 pub threads_say : Says thread_eq.ghosts.eq thread_said
 threads_say x y h =
     let a = both _ _ h in
@@ -48,6 +50,7 @@ threads_say x y h =
       apcs = record { pending = apcs i; closed = doors i };
     }
 
+-- frames
 pub frames_say : Says frame_eq.ghosts.eq frame_said
 frames_say x y h =
     let a = both _ _ h in

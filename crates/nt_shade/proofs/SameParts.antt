@@ -16,12 +16,15 @@ use Rattle.nt_event.specs.contracts.threads.WaitingPartialEq.TheImpl as waiting_
 use Rattle.nt_history.proofs.Same.{Same, bool_same, enum_same, nat_same, none_same, one_same, option_same, two_same}
 use Rattle.nt_history.proofs.SameParts.{apc_same, dpc_same, lock_same, mode_same, thread_same}
 
+-- flags
 pub flag_same : Same beq
 flag_same = bool_same beq refl refl
 
+-- kinds of APCs
 pub kind_same : Same kind_eq.ghosts.eq
 kind_same = same_true kind.the_type tt
 
+-- what holds back the kernel APCs of a thread
 regions_same : Same regions_eq.ghosts.eq
 regions_same x y h =
     let a = both _ _ h in
@@ -31,6 +34,7 @@ regions_same x y h =
     let busies = flag_same x.busy y.busy b.1 in
     λ i. record { crit = crits i; guard = guards i; busy = busies i }
 
+-- waits in which threads are blocked
 waiting_same : Same waiting_eq.ghosts.eq
 waiting_same x y h =
     let a = both _ _ h in
@@ -53,18 +57,19 @@ waiting_same x y h =
       regions = regions i;
     }
 
--- Ready, Running, Blocked, Gone
+-- what threads are doing: Ready, Running, Blocked, Gone
 pub doing_same : Same doing_eq.ghosts.eq
 doing_same =
     enum_same doing.enum _ (two_same nat_same (option_same nat_same), (none_same, (one_same waiting_same, (none_same, tt))))
 
--- Int, Dpc, Threaded, Apc, Base, Rundown
+-- what runs in frames: Int, Dpc, Threaded, Apc, Base, Rundown
 pub body_same : Same body_eq.ghosts.eq
 body_same = enum_same body.enum _ (
   one_same nat_same,
   (one_same dpc_same, (one_same dpc_same, (two_same apc_same kind_same, (one_same thread_same, (one_same apc_same, tt))))),
 )
 
+-- waits that are to be taken up again
 pub again_same : Same again_eq.ghosts.eq
 again_same x y h =
     let a = both _ _ h in
@@ -74,6 +79,7 @@ again_same x y h =
     let dues = option_same nat_same x.due y.due b.1 in
     λ i. record { mode = modes i; alertable = alertables i; due = dues i }
 
+-- locks that are held
 pub held_same : Same held_eq.ghosts.eq
 held_same x y h =
     let a = both _ _ h in
