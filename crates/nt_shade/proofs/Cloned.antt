@@ -2,7 +2,7 @@
 use Rattle.std.proofs.Common.{ap, subst, sym, ◌∙◌}
 use Rattle.std.proofs.lemmas.List.Elements.{same_from_all_zip}
 use Rattle.std.specs.List.{AllZip}
-use Rattle.std.specs.Prelude.{Bool, List, None, Option, Some, [], length, map, refl, reverse, ◌∷◌, ◌≡◌}
+use Rattle.std.specs.Prelude.{List, None, Option, Some, [], length, map, refl, reverse, ◌∷◌, ◌≡◌}
 use Rattle.nt_event.specs.declared.events.Event.{Event}
 use Rattle.nt_event.specs.declared.numbers.CpuNo.{CpuNo}
 use Rattle.nt_event.specs.declared.scripts.Script.{Script}
@@ -11,7 +11,6 @@ use Rattle.nt_shade_dpcs.specs.contracts.locks.ShadeLockClone.TheImpl as lock_cl
 use Rattle.nt_shade_dpcs.specs.contracts.queues.ShadeQueueClone.TheImpl as queue_clone
 use Rattle.nt_shade_dpcs.specs.contracts.shade.ShadeDpcsClone.TheImpl as dpcs_clone
 use Rattle.nt_shade_dpcs.specs.declared.locks.ShadeLock.{ShadeLock}
-use Rattle.nt_shade_dpcs.specs.declared.objects.ShadeObject.{ShadeObject}
 use Rattle.nt_shade_dpcs.specs.declared.queues.ShadeInsert.{ShadeInsert}
 use Rattle.nt_shade_dpcs.specs.declared.queues.ShadeQueue.{ShadeQueue}
 use Rattle.nt_shade_dpcs.specs.declared.shade.ShadeDpcs.{ShadeDpcs}

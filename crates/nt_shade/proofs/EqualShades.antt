@@ -1,8 +1,7 @@
 -- Shades that are found equal say the same.
-use Rattle.std.proofs.Common.{ap, sym, ◌∙◌}
-use Rattle.std.specs.Prelude.{List, map, refl, reverse, true, ◌≡◌}
+use Rattle.std.proofs.Common.{ap}
+use Rattle.std.specs.Prelude.{List, map, reverse, true, ◌≡◌}
 use Rattle.nt_event.proofs.Options.{both}
-use Rattle.nt_event.specs.contracts.commands.ImportancePartialEq.TheImpl as importance_eq
 use Rattle.nt_event.specs.contracts.inserts.Part as part
 use Rattle.nt_event.specs.contracts.inserts.PartPartialEq.TheImpl as part_eq
 use Rattle.nt_history.proofs.Same.{Same, nat_same, option_same}
@@ -21,9 +20,7 @@ use Rattle.nt_shade_dpcs.specs.Shades.{insert_said, lock_said, object_said, queu
 use Rattle.nt_shade.specs.contracts.cpus.ShadeCpuPartialEq.TheImpl as cpu_eq
 use Rattle.nt_shade.specs.declared.shade.Shade.{Shade}
 use Rattle.nt_shade.specs.Cpus.{cpu_said}
-use Rattle.nt_shade.specs.Frames.{frame_said, part_said}
 use Rattle.nt_shade.specs.Same.{SayTheSame, are_equal}
-use Rattle.nt_shade.specs.Threads.{thread_said}
 use Rattle.nt_shade.proofs.EqualThreads.{frames_say, threads_say}
 use Rattle.nt_shade.proofs.Lists.{Says, lists_same, lists_say, turned_lists_say}
 use Rattle.nt_shade.proofs.SameParts.{flag_same}

@@ -18,10 +18,9 @@ use Rattle.nt_shade_asks.proofs.Counts.{same_counts}
 use Rattle.nt_shade_dpcs.specs.Same.{HaveTheSame}
 use Rattle.nt_shade_dpcs.proofs.SameLanes.{same_lanes}
 use Rattle.nt_shade.specs.declared.shade.Shade.{Shade}
-use Rattle.nt_shade.specs.Cpus.{cpu_said, kept_but_dues}
+use Rattle.nt_shade.specs.Cpus.{kept_but_dues}
 use Rattle.nt_shade.specs.Same.{SayTheSame}
 use Rattle.nt_shade.specs.Shade.{AreCounts, IsShadeOf}
-use Rattle.nt_shade.specs.Threads.{thread_said}
 
 -- all that stands in lanes is the same, where that of threads is
 whole_lanes : (s : Script) (h k : List Event) → HaveTheSame s h k →

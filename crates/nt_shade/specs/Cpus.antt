@@ -1,5 +1,5 @@
 -- What a shade says of a processor, in the words of the machine's definitions.
-use Rattle.std.specs.Prelude.{List, None, [], length, map, ℕ, ◌<◌, ◌^◌}
+use Rattle.std.specs.Prelude.{None, [], length, map, ◌<◌, ◌^◌}
 use Rattle.nt_event.specs.Frames.{Frames}
 use Rattle.nt_event.specs.Own.{Own}
 use Rattle.nt_cpu.specs.States.{CpuState}
