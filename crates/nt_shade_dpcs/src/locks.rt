@@ -12,7 +12,7 @@ use nt_states::{Move, moved_lock};
 use std::alloc::{AllocError, Global};
 
 /// What stands of a spin lock.
-#[derive(Clone, PartialEq, Eq, Drop, Debug)]
+#[derive(Clone, PartialEq, Eq, Hash, Drop, Debug)]
 pub struct ShadeLock {
     /// The processor whose frame holds it.
     pub holder: Option<CpuNo>,

@@ -8,7 +8,7 @@ use nt_dpc_lanes::Change;
 use nt_event::{CpuNo, DpcNo, Importance};
 
 /// What stands of a DPC object.
-#[derive(Clone, Copy, PartialEq, Eq, Debug)]
+#[derive(Clone, Copy, PartialEq, Eq, Hash, Debug)]
 pub struct ShadeObject {
     pub importance: Importance,
     pub target: Option<CpuNo>,

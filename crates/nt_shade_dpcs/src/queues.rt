@@ -13,7 +13,7 @@ use nt_event::{CpuNo, DpcNo, Importance, Part, Script};
 use std::alloc::{AllocError, Global};
 
 /// A pending insert of a DPC object.
-#[derive(Clone, Copy, PartialEq, Eq, Debug)]
+#[derive(Clone, Copy, PartialEq, Eq, Hash, Debug)]
 pub struct ShadeInsert {
     pub dpc: DpcNo,
     pub part: Part,
@@ -22,7 +22,7 @@ pub struct ShadeInsert {
 }
 
 /// What stands in the DPC queue of a processor.
-#[derive(Clone, PartialEq, Eq, Drop, Debug)]
+#[derive(Clone, PartialEq, Eq, Hash, Drop, Debug)]
 pub struct ShadeQueue {
     /// The pending inserts in the order in which they came.
     pub pending: Vec<ShadeInsert>,

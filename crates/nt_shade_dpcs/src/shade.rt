@@ -14,7 +14,7 @@ use nt_event::{Event, Script};
 use std::alloc::{AllocError, Global};
 
 /// What stands in the lanes of a script but those of threads, without the numbers of events.
-#[derive(Clone, PartialEq, Eq, Drop, Debug)]
+#[derive(Clone, PartialEq, Eq, Hash, Drop, Debug)]
 pub struct ShadeDpcs {
     pub objects: Vec<ShadeObject>,
     pub queues: Vec<ShadeQueue>,

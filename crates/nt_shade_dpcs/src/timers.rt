@@ -10,7 +10,7 @@ use nt_event::{Command, Event, Reply, Script, ThreadNo, TimerKey, What};
 use std::alloc::{AllocError, Global};
 
 /// A timer or a delay that is set.
-#[derive(Clone, Copy, PartialEq, Eq, Debug)]
+#[derive(Clone, Copy, PartialEq, Eq, Hash, Debug)]
 pub struct ShadeKey {
     pub key: TimerKey,
     /// The time at which it is due.
@@ -20,7 +20,7 @@ pub struct ShadeKey {
 }
 
 /// The time, and what is set.
-#[derive(Clone, PartialEq, Eq, Drop, Debug)]
+#[derive(Clone, PartialEq, Eq, Hash, Drop, Debug)]
 pub struct ShadeTimers {
     pub now: u64,
     /// What is set, by due time; of one due time what was set first comes first.

@@ -1,0 +1,5 @@
+pub mod Threads
+pub mod Frames
+pub mod Cpus
+pub mod Shade
+pub mod Same
