@@ -1,16 +1,20 @@
 -- Looks that were put together class by class: which of them are there.
-use Rattle.std.proofs.Common.{arith, inl, inr, subst, sym, ◌∙◌}
+use Rattle.std.proofs.Common.{ap, arith, inl, inr, subst, sym, ◌∙◌}
 use Rattle.std.proofs.lemmas.Bool.{eqb-false, eqb-true, le-ltb, lt-ltb, ltb-false, ltb-true}
 use Rattle.std.proofs.lemmas.List.{get_or-set_other, get_or-set_same, length-replicate, length-append, length-set}
 use Rattle.std.proofs.lemmas.List.Elements.{Contains-append_left, Contains-append_right}
 use Rattle.std.specs.List.{flat_map}
 use Rattle.std.specs.Prelude.{Bool, Contains, List, [], false, get_or, if◌then◌else◌, length, map, nat_lt, refl, replicate, set, suc, true, zero, ℕ}
 use Rattle.std.specs.Prelude.{◌++◌, ◌+◌, ◌-◌, ◌<◌, ◌==◌, ◌∷◌, ◌≡◌, ◌≤◌, ◌⊎◌}
+use Rattle.nt_event.specs.declared.events.Event.{Event}
 use Rattle.nt_event.specs.declared.events.Rises.{Rises}
+use Rattle.nt_event.specs.declared.numbers.CpuNo.{CpuNo}
+use Rattle.nt_event.specs.declared.scripts.Script.{Script}
 use Rattle.nt_event.specs.Lists.{table, table_from, value_at}
 use Rattle.nt_event.proofs.Elements.{contains_cases, contains_here, contains_mapped, contains_none, contains_there}
-use Rattle.nt_event.proofs.Tables.{get_or-table, is_table, length-table_from, table-same}
+use Rattle.nt_event.proofs.Tables.{get_or-table, is_table, length-table_from, table-same, table-self}
 use Rattle.nt_ahead.specs.Choices.{with_value, with_values}
+use Rattle.nt_ahead.specs.Finds.{HasAllFinds, MayFind, values_ahead}
 
 -- ---- elements of the lists that are joined
 
@@ -36,6 +40,11 @@ chosen k f = record { value = table 16 (below k f) }
 pub chosen_none : (f : ℕ → ℕ) → chosen 0 f ≡ record { value = replicate 16 0 }
 unfolding table_from
 chosen_none f = refl
+
+-- of all classes
+chosen_all : (f : ℕ → ℕ) → chosen 16 f ≡ record { value = table 16 f }
+unfolding table_from
+chosen_all f = refl
 
 module _ (k : ℕ) (f : ℕ → ℕ) where
   below_here : nat_lt k (k + 1) ≡ true
@@ -103,9 +112,30 @@ module _ (k : ℕ) (f : ℕ → ℕ) where
       subst (Contains (flat_map (with_values k values) looks)) (sym (chosen_value l))
       (among_joined (with_values k values) looks (chosen k f) (with_value k (chosen k f) (f k)) h there)
 
--- ---- all classes
+-- ---- what may be found after a history
 
--- once all classes were chosen, the values are those that were chosen
-pub chosen_all : (f : ℕ → ℕ) → chosen 16 f ≡ record { value = table 16 f }
-unfolding table_from
-chosen_all f = refl
+-- each choice of what may be found is there, as far as the classes below this one go
+abbrev pub HasChosen : Script → List Event → CpuNo → ℕ → List Rises → Type 0
+HasChosen s past p k looks = (f : ℕ → ℕ) → ((c : ℕ) → c < 16 → MayFind s past p c (f c)) → Contains looks (chosen k f)
+
+module _ (s : Script) (past : List Event) (p : CpuNo) where
+  -- the look that finds nothing is a choice for no class
+  pub chosen_first : (looks : List Rises) → Contains looks (record { value = replicate 16 0 }) → HasChosen s past p 0 looks
+  chosen_first looks h f may = subst (Contains looks) (sym (chosen_none f)) h
+
+  -- a class more
+  pub chosen_more : (k : ℕ) (values : List ℕ) (looks more : List Rises) → k < 16 → values ≡ values_ahead s past p k →
+      more ≡ flat_map (with_values k values) looks → HasChosen s past p k looks → HasChosen s past p (k + 1) more
+  chosen_more k values looks more l v m h f may =
+      subst (λ (all : List Rises). Contains all (chosen (k + 1) f)) (sym m) (chosen_on k f values looks l (h f may) (at (may k l)))
+    where
+      at : MayFind s past p k (f k) → (f k ≡ 0) ⊎ Contains values (f k)
+      at (inl z) = inl z
+      at (inr there) = inr (subst (λ (all : List ℕ). Contains all (f k)) (sym v) there)
+
+  -- once all classes were chosen, each choice of what may be found is there
+  pub chosen_whole : (looks : List Rises) → HasChosen s past p 16 looks → HasAllFinds s past p looks
+  chosen_whole looks h r long may =
+      let f = value_at r.value in
+      let same : table 16 f ≡ r.value = table-self 0 16 r.value f long (λ i l. refl) in
+      subst (Contains looks) (chosen_all f ∙ ap (λ (values : List ℕ). record { value = values }) same) (h f may)

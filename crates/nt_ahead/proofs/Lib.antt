@@ -4,3 +4,4 @@ pub mod Values
 pub mod Filled
 pub mod Taken
 pub mod Listed
+pub mod Like

@@ -15,7 +15,7 @@ use Rattle.nt_event.proofs.Elements.{contains_here}
 use Rattle.nt_event.proofs.Options.{both}
 use Rattle.nt_event.proofs.Tables.{get_or-table}
 use Rattle.nt_ahead.specs.Finds.{MayFind}
-use Rattle.nt_ahead.specs.TmpValues.{value_if, values_above}
+use Rattle.nt_shade_asks.specs.Values.{value_if, values_above}
 
 -- a value above another one by which the processor was asked is one of those above it
 pub asked_above : (s : Script) (p : CpuNo) (c u v : ℕ) (past : List Event) → nat_lt u v ≡ true → was_asked s p c v past ≡ true →

@@ -7,7 +7,7 @@ use Rattle.nt_event.specs.declared.scripts.Script.{Script}
 use Rattle.nt_event.specs.Classes.{class_count}
 use Rattle.nt_event.specs.Lists.{value_at}
 use Rattle.nt_event.specs.Requests.{seen}
-use Rattle.nt_ahead.specs.TmpValues.{values_above}
+use Rattle.nt_shade_asks.specs.Values.{values_above}
 
 -- the values by which the processor was asked for the class, above what it has seen
 abbrev pub values_ahead : Script → List Event → CpuNo → ℕ → List ℕ

@@ -1,5 +1,4 @@
 pub mod Choices
 pub mod Finds
 pub mod Turns
-pub mod TmpValues
-pub mod TmpFree
+pub mod Like

@@ -7,7 +7,7 @@ use Rattle.nt_event.specs.declared.numbers.CpuNo.{CpuNo}
 use Rattle.nt_event.specs.declared.scripts.Script.{Script}
 use Rattle.nt_event.specs.Classes.{class_count}
 use Rattle.nt_event.specs.Step.{cpu_at}
-use Rattle.nt_ahead.specs.TmpFree.{free_step}
+use Rattle.nt_alike.specs.Free.{free_step}
 
 -- the turn Look has at most 16 values, one for each class; in the code it has 16
 abbrev pub TurnIsShort : Turn → Type 0
