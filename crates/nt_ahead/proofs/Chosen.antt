@@ -105,7 +105,8 @@ module _ (k : ℕ) (f : ℕ → ℕ) where
       Contains (flat_map (with_values k values) looks) (chosen (k + 1) f)
   chosen_on values looks l h (inl z) =
       let here = contains_here (chosen k f) (map (with_value k (chosen k f)) values) in
-      subst (Contains (flat_map (with_values k values) looks)) (sym (chosen_zero z)) (among_joined (with_values k values) looks (chosen k f) (chosen k f) h here)
+      subst (Contains (flat_map (with_values k values) looks)) (sym (chosen_zero z))
+      (among_joined (with_values k values) looks (chosen k f) (chosen k f) h here)
   chosen_on values looks l h (inr v) =
       let mapped = contains_mapped (with_value k (chosen k f)) values (f k) v in
       let there = contains_there (chosen k f) (map (with_value k (chosen k f)) values) (with_value k (chosen k f) (f k)) mapped in

@@ -1,7 +1,8 @@
 -- Each event that may come has its turn in a list of all turns that may be taken: itself, or a look with 16 values.
 use Rattle.std.proofs.Common.{ap, subst, sym, ◌∙◌}
 use Rattle.std.specs.List.{list_any}
-use Rattle.std.specs.Prelude.{Bool, Contains, List, None, Ok, Option, Some, [], false, length, max, nat_lt, not, refl, replicate, suc, true, zero, ℕ, ◌&&◌, ◌++◌, ◌-◌, ◌==◌, ◌||◌}
+use Rattle.std.specs.Prelude.{Bool, Contains, List, None, Ok, Option, Some, [], false, length, max, nat_lt, not, refl, replicate, suc, true, zero, ℕ, ◌&&◌}
+use Rattle.std.specs.Prelude.{◌++◌, ◌-◌, ◌==◌, ◌||◌}
 use Rattle.std.specs.Prelude.{◌∷◌, ◌≡◌, ◌≤◌}
 use Rattle.nt_event.specs.declared.events.Event.{Event}
 use Rattle.nt_event.specs.declared.events.Rises.{Rises}

@@ -61,7 +61,8 @@ module _ (s : Script) (past : List Event) (old : List Turn) (found : List Rises)
   has_it (Next p) m all = listed_plain p (Next p) (contains_here (Next p) _)
   has_it (Look p r) m all = listed_look p r all m
   has_it (Switch p t) m all =
-      listed_plain p (Switch p t) (contains_there (Next p) _ (Switch p t) (contains_table (length s.threads) t.0 (λ t. Switch p (thread t)) (taken_thread s past p t m)))
+      listed_plain p (Switch p t)
+      (contains_there (Next p) _ (Switch p t) (contains_table (length s.threads) t.0 (λ t. Switch p (thread t)) (taken_thread s past p t m)))
 
   -- and each turn of the processor that may be taken stands there
   pub listed_all : (p : CpuNo) → HasAllFinds s past p found → HasAllOf s past p (listed s p old found)

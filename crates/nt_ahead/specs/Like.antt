@@ -19,5 +19,6 @@ pub record HasTurnOf (s : Script) (past : List Event) (turns : List Turn) (e : E
 
 -- where a list has each turn that may be taken, each event that may come has its turn there
 abbrev pub WholeListsTellAll : Type 0
-WholeListsTellAll = (s : Script) (past : List Event) (turns : List Turn) (e : Event) → HasAll s past turns → MayCome s e past →
+WholeListsTellAll =
+    (s : Script) (past : List Event) (turns : List Turn) (e : Event) → HasAll s past turns → MayCome s e past →
     HasTurnOf s past turns e

@@ -38,5 +38,6 @@ module _ (s : Script) (x : Unnoticed) (of : IsOf s x) (p : CpuNo) (c : ℕ) (has
       let room = subst (λ (y : ClassAsks). y.class < 16) (sym e) (of.room (p.0 * 16 + c) row within).class in
       let one = one_place row p c place room l in
       let kept : row.ahead.items ≡ values_above s row.cpu row.class (seen s row.cpu row.class past) past =
-      subst (λ (y : ClassAsks). y.ahead.items ≡ values_above s y.cpu y.class (seen s y.cpu y.class past) past) (sym e) (asked (p.0 * 16 + c) row within).ahead in
+      subst (λ (y : ClassAsks). y.ahead.items ≡ values_above s y.cpu y.class (seen s y.cpu y.class past) past) (sym e)
+      (asked (p.0 * 16 + c) row within).ahead in
       carried (λ q d. row.ahead.items ≡ values_above s q d (seen s q d past) past) p row.cpu c row.class one.0 one.1 kept

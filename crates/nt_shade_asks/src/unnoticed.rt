@@ -37,7 +37,8 @@ impl Unnoticed {
         Ok(Unnoticed { classes })
     }
 
-    /// The values that the processor was asked by for the class and has not noticed, in rising order.
+    /// The values that the processor was asked by for the class and has not noticed, in rising
+    /// order.
     pub fn ahead(&self, cpu: CpuNo, class: u8) -> &[u64]
         requires { class < 16 }
         ensures { (s : Script) → (past : List Event) → IsOf s self.now → IsAsked s past self.now →

@@ -15,9 +15,11 @@ loop-class-init c = λ s past of asked has.
 pub loop-class-preserved : goal.loop-class-preserved
 loop-class-preserved c = λ s past of asked has.
     chosen_more s past c.args.cpu c.loop-class.class c.ahead.result.now c.loop-class.finds.items _ c.loop-class-test.true (c.ahead.ensures s past of asked has)
-    (c.in_ok-finds.ensures ∙ ap (flat_map (with_values c.loop-class.class c.ahead.result.now)) c.as_slice.ensures.value) (c.loop-class.invariant s past of asked has)
+    (c.in_ok-finds.ensures ∙ ap (flat_map (with_values c.loop-class.class c.ahead.result.now)) c.as_slice.ensures.value)
+    (c.loop-class.invariant s past of asked has)
 
 pub returns : goal.returns
 returns c = λ s past of asked has.
     let whole : c.loop-class.class ≡ 16 = omega arith in
-    chosen_whole s past c.args.cpu _ (subst (λ (k : ℕ). HasChosen s past c.args.cpu k c.loop-class.finds.items) whole (c.loop-class.invariant s past of asked has))
+    chosen_whole s past c.args.cpu _
+    (subst (λ (k : ℕ). HasChosen s past c.args.cpu k c.loop-class.finds.items) whole (c.loop-class.invariant s past of asked has))

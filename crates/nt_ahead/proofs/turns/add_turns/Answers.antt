@@ -16,4 +16,5 @@ returns-clause-all c = λ past asked.
     c.in_ok-add_looks.ensures
     ∙ ap (λ (turns : List Turn). turns ++ map (λ (r : Rises). Look p r) (filter finds c.as_slice.result.now)) c.in_ok-add_plain.ensures
     ∙ ap (λ (found : List Rises). (c.args.turns.now.items ++ plain s p) ++ map (λ (r : Rises). Look p r) (filter finds found)) c.as_slice.ensures.value in
-    subst (HasAllOf s past p) (sym is) (listed_all s past c.args.turns.now.items c.in_ok-finds.finds.items p (c.in_ok-finds.ensures s past c.requires.of asked c.requires.cpu))
+    subst (HasAllOf s past p) (sym is)
+    (listed_all s past c.args.turns.now.items c.in_ok-finds.finds.items p (c.in_ok-finds.ensures s past c.requires.of asked c.requires.cpu))
