@@ -12,6 +12,8 @@
 ghost use Rattle.nt_ahead.specs.Like.{WholeListsTellAll};
 
 mod choices;
+#[cfg(test)]
+mod tests;
 mod turns;
 
 pub use turns::turns_ahead;
