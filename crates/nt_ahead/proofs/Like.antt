@@ -1,9 +1,9 @@
 -- Each event that may come has its turn in a list of all turns that may be taken: itself, or a look with 16 values.
 use Rattle.std.proofs.Common.{ap, subst, sym, ◌∙◌}
 use Rattle.std.specs.List.{list_any}
-use Rattle.std.specs.Prelude.{Bool, Contains, List, None, Ok, Option, Some, [], false, length, max, nat_lt, not, refl, replicate, suc, true, zero, ℕ, ◌&&◌}
+use Rattle.std.specs.Prelude.{Contains, List, None, Ok, Option, Some, [], length, max, nat_lt, not, refl, replicate, suc, true, zero, ℕ, ◌&&◌}
 use Rattle.std.specs.Prelude.{◌++◌, ◌-◌, ◌==◌, ◌||◌}
-use Rattle.std.specs.Prelude.{◌∷◌, ◌≡◌, ◌≤◌}
+use Rattle.std.specs.Prelude.{◌∷◌, ◌≡◌}
 use Rattle.nt_event.specs.declared.events.Event.{Event}
 use Rattle.nt_event.specs.declared.events.Rises.{Rises}
 use Rattle.nt_event.specs.declared.events.ScheduleKind.TheVariants.{BadLook, NoSuchCpu}
@@ -11,14 +11,13 @@ use Rattle.nt_event.specs.declared.events.Turn.{Turn}
 use Rattle.nt_event.specs.declared.events.Turn.TheVariants.{Look as LookTurn, Next, Switch as SwitchTurn}
 use Rattle.nt_event.specs.declared.events.What.{What}
 use Rattle.nt_event.specs.declared.events.What.TheVariants.{Begin, Call, Clean, End, Expire, Fire, Flush, Free, Gone, Look, Normal, Rest, Rewait, Switch}
-use Rattle.nt_event.specs.declared.jobs.Lane.{Lane}
 use Rattle.nt_event.specs.declared.numbers.CpuNo.{CpuNo}
 use Rattle.nt_event.specs.declared.scripts.Script.{Script}
 use Rattle.nt_event.specs.Lanes.{Lanes, lanes_at}
 use Rattle.nt_event.specs.Lists.{value_at, when}
 use Rattle.nt_event.specs.Own.{Own, own_of}
-use Rattle.nt_event.specs.Requests.{asks, seen, told_by}
-use Rattle.nt_event.specs.Step.{cpu_at, event_at, good_rises, is_good_look, turn_at, turn_of, uncut_step, was_asked}
+use Rattle.nt_event.specs.Requests.{seen, told_by}
+use Rattle.nt_event.specs.Step.{event_at, good_rises, is_good_look, turn_at, turn_of, uncut_step, was_asked}
 use Rattle.nt_event.proofs.Options.{both, when_gives}
 use Rattle.nt_event.proofs.Tables.{table-same}
 use Rattle.nt_runs.proofs.Steps.{event_gives, refused_gives}

@@ -1,4 +1,4 @@
-use Rattle.nt_event.specs.declared.events.Turn.TheVariants.{Next, Switch}
+use Rattle.nt_event.specs.declared.events.Turn.TheVariants.{Switch}
 use Rattle.nt_event.specs.Numbers.{thread}
 use Rattle.nt_ahead.proofs.Plain.{first_turn, further_turn}
 use Rattle.nt_ahead.proofs.turns.add_plain.Goals as goal
