@@ -156,7 +156,7 @@ two_of s h k x y f g a b e p c has l =
 -- ---- what the counts of one class say at its place
 
 -- classes at one place are one class of one processor
-one_place : (x : ClassAsks) (p : CpuNo) (c : ℕ) → place_of x ≡ p.0 * 16 + c → x.class < 16 → c < 16 → (p ≡ x.cpu) × (c ≡ x.class)
+pub one_place : (x : ClassAsks) (p : CpuNo) (c : ℕ) → place_of x ≡ p.0 * 16 + c → x.class < 16 → c < 16 → (p ≡ x.cpu) × (c ≡ x.class)
 one_place x p c e k l =
     let a : p.0 ≡ x.cpu.0 = omega (arith, e, k, l) in
     let b : c ≡ x.class = omega (arith, e, k, l) in

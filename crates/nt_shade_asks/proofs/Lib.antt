@@ -5,3 +5,4 @@ pub mod Moves
 pub mod Rows
 pub mod New
 pub mod Counts
+pub mod Ahead

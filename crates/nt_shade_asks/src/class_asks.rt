@@ -120,6 +120,13 @@ impl ClassAsks {
         })
     }
 
+    /// The values that the processor was asked by and has not noticed, in rising order.
+    pub(crate) fn ahead(&self) -> &[u64]
+        ensures { result.now ≡ self.now.ahead.items }
+    {
+        self.ahead.as_slice()
+    }
+
     /// Whether one of these asks is for this class of this processor.
     fn is_asked(&self, asks: &[Asked]) -> bool
         ensures { result ≡ list_any (λ a. requests.is_ask self.now.cpu self.now.class (as_ask a))

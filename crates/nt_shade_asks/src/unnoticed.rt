@@ -2,9 +2,12 @@
 ghost use Rattle.std.specs.Prelude.{◌≡◌, ◌+◌, ◌++◌, ◌<◌, ◌^◌, ◌∷◌, [], All, IfOk, IsTrue, List};
 ghost use Rattle.std.specs.Prelude.{OnOk};
 ghost use Rattle.nt_event.specs.declared.events.Event.{Event};
+ghost use Rattle.nt_event.specs.declared.scripts.Script.{Script};
+ghost use Rattle.nt_event.specs.Requests.{seen};
 ghost use Rattle.nt_event.specs.Script.{fits};
 ghost use Rattle.nt_shade_asks.specs.Counts.{AreFew, counts_of};
 ghost use Rattle.nt_shade_asks.specs.Follows.{HasLane, IsAsked, IsNext, IsOf};
+ghost use Rattle.nt_shade_asks.specs.Values.{values_above};
 
 use crate::class_asks::ClassAsks;
 use nt_event::{Asked, CpuNo, Event, Lane, Script, class};
@@ -32,6 +35,21 @@ impl Unnoticed {
             }
         }
         Ok(Unnoticed { classes })
+    }
+
+    /// The values that the processor was asked by for the class and has not noticed, in rising
+    /// order.
+    pub fn ahead(&self, cpu: CpuNo, class: u8) -> &[u64]
+        requires { class < 16 }
+        ensures { (s : Script) → (past : List Event) → IsOf s self.now → IsAsked s past self.now →
+            cpu.0 < s.cpus →
+            result.now ≡ values_above s cpu class (seen s cpu class past) past }
+    {
+        let place = usize::from(cpu.0) * class::COUNT + usize::from(class);
+        match self.classes.as_slice().get(place) {
+            Some(row) => row.ahead(),
+            None => &[],
+        }
     }
 
     /// Takes in the event of this number, which asks for these and touches these lanes. Where no

@@ -1,0 +1,4 @@
+pub mod Choices
+pub mod Finds
+pub mod Turns
+pub mod Like
