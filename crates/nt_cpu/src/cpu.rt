@@ -112,6 +112,13 @@ impl<'s> Cpu<'s> {
         self.seen.rises()
     }
 
+    /// Per class, what it had noticed when it served the class last.
+    pub fn served(&self) -> Rises
+        ensures { result.value ≡ self.now.own.served }
+    {
+        self.kept.served.rises()
+    }
+
     /// Its frames and those of its threads.
     pub fn frames(&self) -> &Frames
         ensures { result.now ≡ self.now.own.frames }

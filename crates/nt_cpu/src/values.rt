@@ -2,7 +2,7 @@
 ghost use Rattle.std.specs.Prelude.{◌≡◌, ◌<◌, ℕ, slice_set};
 ghost use Rattle.nt_event.specs.Lists.{table, value_at};
 
-use nt_event::class;
+use nt_event::{Rises, class};
 use nt_floor::Seen;
 use std::marker::Model;
 
@@ -37,6 +37,13 @@ impl Values {
         Values {
             values: self.values,
         }
+    }
+
+    /// They as they are, in the order of the classes.
+    pub fn rises(&self) -> Rises
+        ensures { result.value ≡ self.now }
+    {
+        Rises { value: self.values }
     }
 
     /// The value of a class.

@@ -27,6 +27,10 @@ told_place s x p c = row_of s.cpus (lane_number s x) p * 16 + c
 abbrev pub row_value : Script → List ℕ → Lane → CpuNo → ℕ → ℕ
 row_value s told x p c = get_or told (told_place s x p c) 0
 
+-- what the lane of this number tells
+abbrev pub told_at : ℕ → List ℕ → ℕ → CpuNo → ℕ → ℕ
+told_at cpus told n p c = get_or told (row_of cpus n p * 16 + c) 0
+
 -- what a lane tells; one that isn't the script's tells nothing
 abbrev pub told_in : Script → List ℕ → Lane → CpuNo → ℕ → ℕ
 told_in s told x p c = if lane_fits s x then row_value s told x p c else 0

@@ -1,11 +1,14 @@
 //! The floor in memory, and the calls on its parts.
-ghost use Rattle.std.specs.Prelude.{◌≡◌, ◌*◌, ◌+◌, ◌<◌, ◌≤◌, ℕ, IfOk, IsTrue, false, length, ◌↔◌};
+ghost use Rattle.std.specs.Prelude.{◌≡◌, ◌*◌, ◌+◌, ◌<◌, ◌≤◌, ◌^◌, ℕ, IfOk, IsTrue, false};
+ghost use Rattle.std.specs.Prelude.{length, ◌↔◌};
+ghost use Rattle.nt_event.specs.Lanes.{lane_count};
 ghost use Rattle.nt_event.specs.Lists.{value_at};
 ghost use Rattle.nt_event.specs.Jobs.{next_ready};
 ghost use Rattle.nt_event.specs.Script.{fits};
 ghost use Rattle.nt_floor.specs.Sums.{sum_of};
 ghost use Rattle.nt_floor.specs.Views.{HasWord};
 ghost use Rattle.nt_plain.specs.Made.{IsKept, drawn, marked, states_of};
+ghost use Rattle.nt_plain.specs.Places.{told_at};
 ghost use Rattle.nt_plain.specs.States.{IsFresh, view_of};
 
 use crate::marks::Marks;
@@ -101,6 +104,14 @@ impl<'s> PlainFloor<'s> {
         &self.states
     }
 
+    /// What holds of its time: an event advances it by less than 2^32 units, and as many numbers
+    /// may be drawn as a run may have events.
+    pub fn time_fits(&self)
+        ensures { self.now.lanes.timers.now ≤ EVENTS * 2 ^ 32 }
+    {
+        self.kept();
+    }
+
     /// What holds of it at any time, for the calls that speak of its parts.
     pub(crate) fn kept(&self)
         ensures { IsKept self.now }
@@ -133,6 +144,18 @@ impl<'s> PlainFloor<'s> {
         } else {
             false
         }
+    }
+
+    /// The greatest request for a class of a processor that the lane of this number tells of; 0
+    /// where it tells of none.
+    pub fn told(&self, number: usize, p: CpuNo, class: u8) -> u64
+        requires lane { number < lane_count self.now.script }
+        requires word { HasWord (view_of self.now) p class }
+        ensures { result ≡ told_at self.now.script.cpus self.now.told number p class }
+    {
+        self.kept();
+        let row = row_of(self.states.whole_script().cpus, number, p);
+        self.told.get(row, class)
     }
 
     /// The thread of the processor that is taken up next, after this one in a cycle; None exactly

@@ -55,6 +55,14 @@ impl ToldValues {
         })
     }
 
+    /// The value of a class in a row.
+    pub(crate) fn get(&self, row: usize, class: u8) -> u64
+        requires { row * 16 + class < length self.now }
+        ensures { result ≡ get_or self.now (row * 16 + class) 0 }
+    {
+        u64::from(self.values[row * 16 + usize::from(class)])
+    }
+
     /// Writes the value of a class in a row.
     pub(crate) fn put(&mut self, row: usize, class: u8, value: u64)
         requires place { row * 16 + class < length self.old }
