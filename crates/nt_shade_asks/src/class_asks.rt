@@ -20,16 +20,16 @@ use std::alloc::{AllocError, Global};
 /// that asked.
 #[derive(Drop, Debug)]
 pub struct ClassAsks {
-    cpu: CpuNo,
-    class: u8,
+    pub cpu: CpuNo,
+    pub class: u8,
     /// The greatest value that the processor noticed.
-    seen: u64,
+    pub seen: u64,
     /// What it had noticed when it served the class last.
-    served: u64,
+    pub served: u64,
     /// The values that it was asked by and has not noticed, in rising order.
-    ahead: Vec<u64>,
+    pub ahead: Vec<u64>,
     /// The greatest value that each lane tells, by the lane's number.
-    told: Vec<u64>,
+    pub told: Vec<u64>,
 }
 
 /// The value of the class that a Look found; 0 where it found none.

@@ -17,7 +17,7 @@ use std::alloc::{AllocError, Global};
 #[derive(Drop, Debug)]
 pub struct Unnoticed {
     /// Those of a processor stand together, in the order of the classes.
-    classes: Vec<ClassAsks>,
+    pub classes: Vec<ClassAsks>,
 }
 
 impl Unnoticed {
