@@ -17,6 +17,7 @@ pub fn answer(rt: HostRuntime, case: &str) -> io::Result<()> {
     match case {
         "an ordinary insert asks by the table" => ordinary_inserts_ask(rt),
         "only the insert above the depth limit asks" => answer_of_depth(rt),
+        "the first is taken until there is none" => answer_of_firsts(rt),
         _ => answer_of_a_queue(rt, case),
     }
 }
@@ -25,6 +26,12 @@ pub fn answer(rt: HostRuntime, case: &str) -> io::Result<()> {
 fn answer_of_depth(rt: HostRuntime) -> io::Result<()> {
     let mut queue = DpcQueue::new(rt.alloc(), OWN, 4, 2)?;
     a_deep_insert_asks(rt, &mut queue)
+}
+
+/// Writes the answers of the case in which the queue is for two objects, which are all there are.
+fn answer_of_firsts(rt: HostRuntime) -> io::Result<()> {
+    let mut queue = DpcQueue::new(rt.alloc(), OWN, 2, 4)?;
+    firsts_are_taken(rt, &mut queue)
 }
 
 /// Writes the answers of a case that begins with an empty queue.
@@ -41,7 +48,6 @@ fn make_calls(rt: HostRuntime, case: &str, queue: &mut DpcQueue) -> io::Result<(
         "an object is inserted once and removed once" => once_in_and_once_out(rt, queue),
         "a threaded dpc stands in its own part" => a_threaded_insert(rt, queue),
         "a target decides the queue and a rest the idle mark" => targets_and_rests(rt, queue),
-        "the first is taken until there is none" => firsts_are_taken(rt, queue),
         _ => println!(rt; "  no such case"),
     }
 }
@@ -203,7 +209,7 @@ fn targets_and_rests(rt: HostRuntime, queue: &mut DpcQueue) -> io::Result<()>
 }
 
 fn firsts_are_taken(rt: HostRuntime, queue: &mut DpcQueue) -> io::Result<()>
-    requires { queue.old ≡ new_queue (cpu 0) 4 4 }
+    requires { queue.old ≡ new_queue (cpu 0) 2 4 }
 {
     let mut a = DpcObject::new(DpcNo(0), false);
     let mut b = DpcObject::new(DpcNo(1), false);
