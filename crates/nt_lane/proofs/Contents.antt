@@ -26,7 +26,7 @@ use Rattle.nt_dpc.specs.Objects.{ObjectFacts}
 use Rattle.nt_dpc.specs.Queues.{QueueFacts}
 use Rattle.nt_states.specs.ThreadLanes.{left}
 use Rattle.nt_lane.specs.Answers.{HeldStates, held_lanes, threads_told, timers_told}
-use Rattle.nt_lane.specs.Held.{GroupState, SpinFacts, group_content, with_threads}
+use Rattle.nt_lane_record.specs.Held.{GroupState, SpinFacts, group_content, with_threads}
 use Rattle.nt_lane.specs.Steps.{object_left, queue_left, spin_left}
 use Rattle.nt_lane.proofs.HeldTold.{object_is_told, queue_is_told, spin_is_told}
 

@@ -24,18 +24,18 @@ use Rattle.nt_mark.specs.declared.view.View.{View}
 use Rattle.nt_mark.specs.Views.{entry, reach, request_word, step_word}
 use Rattle.nt_lane.specs.declared.planning.Plan.{Plan}
 use Rattle.nt_lane.specs.Answers.{held_lanes, threads_told}
-use Rattle.nt_lane.specs.Held.{GroupState, IsGroupThere, group_content}
+use Rattle.nt_lane_record.specs.Held.{GroupState, IsGroupThere, group_content}
 use Rattle.nt_lane.specs.Locks.{AreKnownBy, AreLanes, HeldLanes, IsKnownBy, IsLane, Kept, found_in, in_each, states_of, told_in, told_of}
 use Rattle.nt_lane.specs.Plans.{IsPlan}
-use Rattle.nt_lane.specs.Records.{IsAskKnown}
+use Rattle.nt_lane_record.specs.Records.{IsAskKnown}
 use Rattle.nt_lane.specs.Seats.{AreFoundOn}
 use Rattle.nt_lane.specs.Steps.{AreLeftBy}
 use Rattle.nt_states.specs.LaneLists.{AskFits, LaneFits}
 use Rattle.nt_lane.specs.Tries.{HasMade, IsDone}
-use Rattle.nt_lane.specs.Views.{Learns, grows_through}
+use Rattle.nt_lane_record.specs.Passes.{Learns, grows_through}
 use Rattle.nt_lane.proofs.Founding.{all_found}
 use Rattle.nt_lane.proofs.Moves.{asked_known}
-use Rattle.nt_lane.proofs.Tying.{here}
+use Rattle.nt_lane_record.proofs.Tying.{here}
 use Rattle.nt_states.proofs.Requests.{as_raised}
 
 -- ---- after it was drawn and marked, the pass only learned

@@ -10,8 +10,8 @@ use Rattle.nt_mark.specs.Views.{drawn, entry, greatest, reach, reached_at, step_
 use Rattle.nt_mark.proofs.Reach.{greatest_append}
 use Rattle.nt_lane.specs.Marked.{AreMarked}
 use Rattle.nt_lane.specs.Tries.{HasMade}
-use Rattle.nt_lane.proofs.Passes.{grows_by}
-use Rattle.nt_lane.proofs.Tying.{here}
+use Rattle.nt_lane_record.proofs.Growing.{grows_by}
+use Rattle.nt_lane_record.proofs.Tying.{here}
 
 -- of each word it knows no less than before
 still_reached : (n : ℕ) (e : Event) (lanes : List ℕ) (u : ℕ) (v : View) → reach u v ≤ reach u (drawn v n e lanes)

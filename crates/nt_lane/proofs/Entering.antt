@@ -20,10 +20,10 @@ use Rattle.nt_dpc_lanes.specs.Changes.{change_of}
 use Rattle.nt_dpc_lanes.specs.declared.changes.Change.{Change}
 use Rattle.nt_dpc_lanes.specs.declared.changes.Change.TheVariants.{Insert, Nothing, Remove, Rest, Run, SetImportance, SetTarget, Take}
 use Rattle.nt_lane.specs.Answers.{BothAgree}
-use Rattle.nt_lane.specs.Changed.{MayChangeBoth, MayChangeObject, MayChangeQueue, object_moved, object_set, queue_idle, queue_moved}
-use Rattle.nt_lane.specs.Held.{IsObjectThere, IsQueueThere}
+use Rattle.nt_lane_record.specs.Changed.{MayChangeBoth, MayChangeObject, MayChangeQueue, object_moved, object_set, queue_idle, queue_moved}
+use Rattle.nt_lane_record.specs.Held.{IsObjectThere, IsQueueThere}
 use Rattle.nt_lane.specs.Steps.{MayLeaveBoth, MayLeaveObject, MayLeaveQueue}
-use Rattle.nt_lane.proofs.Changing.{alone_object, alone_queue, both_object, both_queue}
+use Rattle.nt_lane_record.proofs.Changing.{alone_object, alone_queue, both_object, both_queue}
 use Rattle.nt_lane.proofs.Shapes.{Moves, Sets}
 use Rattle.nt_states.proofs.Requests.{all_head, all_tail}
 

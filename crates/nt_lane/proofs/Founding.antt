@@ -28,9 +28,9 @@ use Rattle.nt_mark.specs.Rule.{IsLongest}
 use Rattle.nt_mark.specs.Views.{note_of}
 use Rattle.nt_states.specs.Reads.{AreHeld}
 use Rattle.nt_lane.specs.Answers.{HeldStates, IsHeld, held_lanes}
-use Rattle.nt_lane.specs.Held.{GroupState, IsLastNoted, SpinFacts, group_content}
+use Rattle.nt_lane_record.specs.Held.{GroupState, IsLastNoted, SpinFacts, group_content}
 use Rattle.nt_lane.specs.Locks.{AreKnownBy, AreLanes, AreLongest, HeldLanes, IsKnownBy, IsLane, Kept, found_in, in_each, states_of, told_in, told_of}
-use Rattle.nt_lane.specs.Records.{LaneRecord, told_then}
+use Rattle.nt_lane_record.specs.Records.{LaneRecord, told_then}
 use Rattle.nt_lane.specs.Seats.{AreFoundOn, AreShownOn, IsFoundOn, IsShown, IsShownOn}
 use Rattle.nt_lane.specs.Steps.{AreLeftBy, DpcsLeft, KnowsLeft, LeavesGroup, LeavesObject, LeavesQueue, LeavesSpin, LeavesTimers, is_touched, object_left}
 use Rattle.nt_lane.specs.Steps.{object_name, objects_told, queue_left, queue_name, spin_left}

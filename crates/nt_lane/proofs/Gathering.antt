@@ -2,8 +2,9 @@
 use Rattle.std.specs.Prelude.{List, [], ◌++◌, ◌∷◌}
 use Rattle.atomic_table.specs.Seated.{TableId}
 use Rattle.nt_mark.specs.declared.seats.Keeper.{Keeper}
-use Rattle.nt_lane.specs.declared.lanes.Piece.{Piece}
-use Rattle.nt_lane.specs.Pieces.{ArePiecesOf, IsPieceOf}
+use Rattle.nt_lane_record.specs.declared.piece.Piece.{Piece}
+use Rattle.nt_lane_record.specs.Pieces.{IsPieceOf}
+use Rattle.nt_lane.specs.Pieces.{ArePiecesOf}
 
 pub pieces_more : (t : TableId) (ps : List Piece) (ks : List Keeper) (p : Piece) (k : Keeper) → ArePiecesOf t ps ks → IsPieceOf t p k →
     ArePiecesOf t (ps ++ p ∷ []) (ks ++ k ∷ [])

@@ -14,7 +14,7 @@ use Rattle.nt_event.specs.Script.{has_cpu, has_dpc, has_lock}
 use Rattle.nt_dpc.specs.Objects.{ObjectFacts}
 use Rattle.nt_dpc.specs.Queues.{QueueFacts}
 use Rattle.nt_lane.specs.Answers.{HeldStates, held_lanes, object_told, queue_told, spin_told}
-use Rattle.nt_lane.specs.Held.{SpinFacts}
+use Rattle.nt_lane_record.specs.Held.{SpinFacts}
 
 -- the state of the held object is what they tell of it
 pub object_is_told : (h : HeldStates) (d : DpcNo) (o : ObjectFacts) → IsTrue (has_dpc h.script d) → h.object ≡ Some o → o.state ≡ object_at (held_lanes h) d

@@ -5,8 +5,8 @@ use Rattle.nt_mark.specs.declared.view.View.{View}
 use Rattle.nt_mark.specs.Rule.{IsLongest}
 use Rattle.nt_mark.specs.Views.{request_word, step_word}
 use Rattle.nt_lane.specs.Locks.{AreKnownBy, AreLongest, HeldLanes, IsKnownBy, Kept}
-use Rattle.nt_lane.specs.Records.{LaneRecord}
-use Rattle.nt_lane.specs.Views.{Learns}
+use Rattle.nt_lane_record.specs.Records.{LaneRecord}
+use Rattle.nt_lane_record.specs.Passes.{Learns}
 use Rattle.nt_lane.proofs.Retries.{learns_through}
 
 known_later : (r : LaneRecord) (v w : View) → Learns v w → IsKnownBy r v → IsKnownBy r w

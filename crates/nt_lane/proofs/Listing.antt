@@ -16,7 +16,7 @@ use Rattle.nt_mark.specs.declared.view.View.{View}
 use Rattle.nt_mark.specs.Views.{entry, note_numbers}
 use Rattle.nt_lane.specs.Seats.{AreFoundOn, AreListed, IsFoundOn, IsListedOn}
 use Rattle.nt_lane.specs.Tries.{HasMade}
-use Rattle.nt_lane.proofs.Tying.{here}
+use Rattle.nt_lane_record.proofs.Tying.{here}
 
 contains_cases : {A : Type 0} (y : A) (ys : List A) (x : A) → Contains (y ∷ ys) x → (y ≡ x) ⊎ Contains ys x
 contains_cases {A} y ys x h = go h.0 h.1 h.2

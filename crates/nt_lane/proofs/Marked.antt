@@ -10,7 +10,7 @@ use Rattle.nt_mark.proofs.Reach.{greatest_append, one_other, one_this}
 use Rattle.nt_event.specs.declared.class.Asked.{Asked}
 use Rattle.nt_states.specs.LaneLists.{as_asks}
 use Rattle.nt_lane.specs.Marked.{AreMarked, mark_for, marked_all}
-use Rattle.nt_lane.specs.Records.{IsAskKnown}
+use Rattle.nt_lane_record.specs.Records.{IsAskKnown}
 
 pub marked_is : (n : ℕ) (asks : List Ask) (v : View) → AreMarked n asks v (marked_all n asks v)
 marked_is n [] v = record {

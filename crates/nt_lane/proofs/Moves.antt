@@ -21,7 +21,7 @@ use Rattle.nt_mark.specs.declared.view.View.{View}
 use Rattle.nt_mark.specs.Names.{limit_of}
 use Rattle.nt_mark.specs.Views.{entry, reach, request_word}
 use Rattle.nt_lane.specs.Marked.{mark_for}
-use Rattle.nt_lane.specs.Records.{IsAskKnown}
+use Rattle.nt_lane_record.specs.Records.{IsAskKnown}
 use Rattle.nt_lane.specs.Tries.{HasMade}
 use Rattle.nt_lane.specs.Views.{drawable_of, draw_told, is_mark, lists_of, look_told, mark_told, words_of}
 use Rattle.nt_states.proofs.Requests.{all_head, all_tail, is_ask_true}

@@ -22,14 +22,13 @@ use Rattle.nt_event.specs.Waits.{facts_after}
 use Rattle.nt_states.specs.ThreadLanes.{facts_in, left}
 use Rattle.nt_event.proofs.Tables.{length-table_from}
 use Rattle.nt_event.specs.Timers.{Timers}
-use Rattle.nt_lane.specs.Held.{GroupState, IsGroupThere, IsLastNoted, next_of}
+use Rattle.nt_lane_record.specs.Held.{GroupState, IsGroupThere, IsLastNoted, next_of, state_noted}
 use Rattle.nt_lane.specs.Locks.{HeldLanes, Kept, in_each}
-use Rattle.nt_lane.specs.Records.{IsAskKnown, IsNoted, LaneRecord, told_then}
-use Rattle.nt_lane.specs.Seats.{state_noted}
+use Rattle.nt_lane_record.specs.Records.{IsAskKnown, IsNoted, LaneRecord, told_then}
 use Rattle.nt_lane.specs.Steps.{AreLeftBy, DpcsLeft, IsStep, KnowsLeft, LeavesGroup, LeavesSpin, LeavesTimers, is_touched, note_left, object_name, queue_name}
-use Rattle.nt_lane.specs.Views.{Learns}
-use Rattle.nt_lane.proofs.Ends.{next_more, shown_more}
-use Rattle.nt_lane.proofs.Tying.{learns_through}
+use Rattle.nt_lane_record.specs.Passes.{Learns}
+use Rattle.nt_lane_record.proofs.Ends.{next_more, shown_more}
+use Rattle.nt_lane_record.proofs.Tying.{learns_through}
 
 module _ (s : Script) (n : ℕ) (asks : List Ask) (next : Content) (r t : LaneRecord) (v w : View)
     (noted : IsNoted r t v w (note_left s n asks next r) (told_then s.cpus n asks r.told)) where

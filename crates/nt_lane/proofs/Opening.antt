@@ -19,7 +19,7 @@ use Rattle.nt_dpc.specs.Objects.{ObjectFacts, new_object}
 use Rattle.nt_dpc.specs.Queues.{QueueFacts, new_queue}
 use Rattle.nt_timer.specs.Settings.{new_timers}
 use Rattle.nt_timer.proofs.Events.{timer_calls_are_events}
-use Rattle.nt_lane.specs.Held.{IsSpinThere, SpinFacts}
+use Rattle.nt_lane_record.specs.Held.{IsSpinThere, SpinFacts}
 
 pub object_opens : (s : Script) (d : DpcNo) (threaded : Bool) (o : ObjectFacts) → IsTrue (has_dpc s d) → o ≡ new_object d threaded →
     OfObject (object_at (lanes_at s []) o.dpc) ≡ OfObject o.state

@@ -1,24 +1,13 @@
 -- What passes keep when they learn, draw, mark and look.
 use Rattle.std.proofs.Common.{arith, inl, inr, subst, sym}
-use Rattle.std.proofs.lemmas.List.Elements.{Contains-append_left, Contains-push_cases}
-use Rattle.std.specs.Prelude.{Contains, List, [], ℕ, ◌++◌, ◌<◌, ◌≡◌, ◌⊎◌}
+use Rattle.std.proofs.lemmas.List.Elements.{Contains-push_cases}
+use Rattle.std.specs.Prelude.{Contains, List, [], ℕ, ◌<◌, ◌≡◌, ◌⊎◌}
 use Rattle.nt_mark.specs.declared.view.Entry.{Entry}
-use Rattle.nt_mark.specs.declared.view.LaneList.{LaneList}
 use Rattle.nt_mark.specs.declared.view.View.{View}
 use Rattle.nt_event.specs.declared.events.Event.{Event}
 use Rattle.nt_mark.specs.Views.{drawn, entry}
 use Rattle.nt_lane.specs.Seats.{AreListed, IsListedOn}
-use Rattle.nt_lane.specs.Views.{Grows}
-
--- a view with these parts, entries and knowledge of another, or more of them
-pub grows_by : (v w : View) → w.parts ≡ v.parts → (es : List Entry) → w.entries ≡ v.entries ++ es →
-    (ks : List Entry) → w.known ≡ v.known ++ ks → (ps : List LaneList) → w.prefixes ≡ v.prefixes ++ ps → Grows v w
-grows_by v w p es e ks k ps q = record {
-  parts = p;
-  entries = λ x h. subst (λ (l : List Entry). Contains l x) (sym e) (Contains-append_left v.entries es x h);
-  known = λ x h. subst (λ (l : List Entry). Contains l x) (sym k) (Contains-append_left v.known ks x h);
-  prefixes = λ x h. subst (λ (l : List LaneList). Contains l x) (sym q) (Contains-append_left v.prefixes ps x h);
-}
+use Rattle.nt_lane_record.specs.Passes.{Grows}
 
 -- the lists that are known may be more
 pub listed_grows : (v w : View) → w.entries ≡ v.entries → Grows v w → AreListed v → AreListed w

@@ -40,11 +40,11 @@ use Rattle.nt_states.specs.ThreadLanes.{ThreadLanes}
 use Rattle.nt_timer.specs.Laws.{IsSized}
 use Rattle.nt_lane.specs.declared.planning.Plan.{Plan}
 use Rattle.nt_lane.specs.Answers.{BothAgree, HeldStates, IsHeld, held_lanes, threads_told, timers_told}
-use Rattle.nt_lane.specs.Held.{GroupState, IsGroupThere, IsObjectThere, IsQueueThere, IsSpinThere, SpinFacts, group_content}
+use Rattle.nt_lane_record.specs.Held.{GroupState, IsGroupThere, IsObjectThere, IsQueueThere, IsSpinThere, SpinFacts, group_content}
 use Rattle.nt_lane.specs.Leaving.{Leaves}
 use Rattle.nt_lane.specs.Locks.{AreKnownBy, AreLanes, AreRoomy, HeldLanes, IsKnownBy, IsLane, Kept, in_each, states_of}
 use Rattle.nt_lane.specs.Plans.{IsPlan}
-use Rattle.nt_lane.specs.Records.{LaneRecord}
+use Rattle.nt_lane_record.specs.Records.{LaneRecord}
 use Rattle.nt_lane.specs.Steps.{AreReadyFor, DpcsReady, IsReady, MayLeaveGroup, MayLeaveObject, MayLeaveQueue, MayLeaveSpin, MayLeaveTimers, is_touched}
 use Rattle.nt_lane.specs.Steps.{object_name, queue_name}
 use Rattle.nt_lane.proofs.Entering.{both_may, object_may, queue_may}
@@ -52,7 +52,7 @@ use Rattle.nt_lane.proofs.Founding.{one_held}
 use Rattle.nt_lane.proofs.HeldTold.{object_is_told, queue_is_told}
 use Rattle.nt_lane.proofs.Shapes.{Alone, Both, Moves, Neither, Own, Sets, Shape, shape}
 use Rattle.nt_lane.proofs.Jobs as jobs
-use Rattle.nt_lane.proofs.Tying.{here}
+use Rattle.nt_lane_record.proofs.Tying.{here}
 
 -- ---- the lane's record
 

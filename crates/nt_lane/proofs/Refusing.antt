@@ -14,7 +14,7 @@ use Rattle.nt_lane.specs.Decided.{IsNoEvent}
 use Rattle.nt_lane.specs.Locks.{AreKnownBy, AreLanes, AreLongest, HeldLanes, found_in, states_of}
 use Rattle.nt_lane.specs.Plans.{IsPlan}
 use Rattle.nt_lane.specs.Tries.{IsNotDone}
-use Rattle.nt_lane.specs.Views.{Learns}
+use Rattle.nt_lane_record.specs.Passes.{Learns}
 use Rattle.nt_lane.proofs.Founding.{all_shown}
 
 -- no memory was found

@@ -16,7 +16,8 @@ use Rattle.nt_mark.specs.Names.{limit_of}
 use Rattle.nt_mark.specs.Views.{entry, step_word}
 use Rattle.nt_lane.specs.Marked.{mark_for}
 use Rattle.nt_lane.specs.Tries.{HasMade, IsDone, IsNotDone}
-use Rattle.nt_lane.specs.Views.{Learns, drawable_of, grows_same, grows_through}
+use Rattle.nt_lane_record.specs.Passes.{Learns, grows_same, grows_through}
+use Rattle.nt_lane.specs.Views.{drawable_of}
 
 pub learns_same : (v : View) → Learns v v
 learns_same v = record { entries = refl; marks = refl; looks = refl; least = λ u. omega arith; grows = grows_same v }

@@ -36,7 +36,7 @@ use Rattle.nt_states.specs.DpcLanes.{DpcLanes, MayLeave}
 use Rattle.nt_dpc_lanes.specs.declared.changes.Change.{Change}
 use Rattle.nt_dpc_lanes.specs.declared.changes.Change.TheVariants.{Insert, Nothing, Remove, SetImportance, SetTarget, Take}
 use Rattle.nt_event.specs.Script.{has_cpu}
-use Rattle.nt_lane.specs.Changed.{MayChangeQueue}
+use Rattle.nt_lane_record.specs.Changed.{MayChangeQueue}
 use Rattle.nt_states.specs.Reads.{AreHeld}
 
 abbrev pub NoObject : List Lane → Type 0

@@ -15,7 +15,7 @@ use Rattle.nt_dpc.specs.Objects.{ObjectFacts}
 use Rattle.nt_dpc.specs.Queues.{QueueFacts, holds_dpc}
 use Rattle.nt_timer.specs.Laws.{IsSized}
 use Rattle.nt_timer.specs.Settings.{new_timers}
-use Rattle.nt_lane.specs.Held.{GroupState, IsGroupThere, IsObjectThere, IsQueueThere, IsSpinThere, SpinFacts}
+use Rattle.nt_lane_record.specs.Held.{GroupState, IsGroupThere, IsObjectThere, IsQueueThere, IsSpinThere, SpinFacts}
 
 -- the script, and the states of the lanes that are held, at most one of each kind
 pub record HeldStates : Type 0 where

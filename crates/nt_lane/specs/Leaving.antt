@@ -7,7 +7,7 @@ use Rattle.nt_event.specs.declared.jobs.Stand.{Stand}
 use Rattle.nt_event.specs.declared.scripts.Script.{Script}
 use Rattle.nt_event.specs.Threads.{ThreadFacts, start_facts}
 use Rattle.nt_states.specs.ThreadFits.{RunsHere, named_thread}
-use Rattle.nt_lane.specs.Held.{GroupState}
+use Rattle.nt_lane_record.specs.Held.{GroupState}
 
 -- where a group is held and the event names no thread, its maker runs there
 abbrev pub MakerRuns : Script → Option GroupState → Stand → What → Type 0

@@ -1,14 +1,11 @@
 pub mod Views
-pub mod Records
 pub mod Seats
-pub mod Held
 pub mod Making
 pub mod Pieces
 pub mod Answers
 pub mod Inside
 pub mod Standing
 pub mod Marked
-pub mod Changed
 pub mod Decided
 pub mod Needed
 pub mod Locks

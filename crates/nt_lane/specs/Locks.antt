@@ -14,9 +14,9 @@ use Rattle.nt_mark.specs.Rule.{IsLongest}
 use Rattle.nt_mark.specs.Views.{reach, step_word}
 use Rattle.nt_timer.specs.Laws.{IsSized}
 use Rattle.nt_lane.specs.Answers.{HeldStates, held_lanes}
-use Rattle.nt_lane.specs.Held.{GroupState, IsGroupThere, IsLastNoted, IsObjectThere, IsQueueThere, IsSpinThere}
-use Rattle.nt_lane.specs.Held.{SpinFacts, group_content, next_of}
-use Rattle.nt_lane.specs.Records.{AreKnown, Knows, LaneRecord}
+use Rattle.nt_lane_record.specs.Held.{GroupState, IsGroupThere, IsLastNoted, IsObjectThere, IsQueueThere, IsSpinThere}
+use Rattle.nt_lane_record.specs.Held.{SpinFacts, group_content, next_of}
+use Rattle.nt_lane_record.specs.Records.{AreKnown, Knows, LaneRecord}
 
 -- a state, with the lane's record
 pub record Kept (A : Type 0) : Type 0 where

@@ -4,7 +4,7 @@ use Rattle.nt_event.specs.Requests.{Ask}
 use Rattle.nt_mark.specs.declared.view.Mark.{Mark}
 use Rattle.nt_mark.specs.declared.view.View.{View}
 use Rattle.nt_mark.specs.Views.{mark_of, marked, reach, step_word}
-use Rattle.nt_lane.specs.Records.{IsAskKnown}
+use Rattle.nt_lane_record.specs.Records.{IsAskKnown}
 
 -- the mark of the event of this number for an ask
 abbrev pub mark_for : ℕ → Ask → Mark

@@ -6,7 +6,7 @@ use Rattle.nt_event.specs.declared.jobs.Lane.{Lane}
 use Rattle.nt_event.specs.declared.jobs.Stand.{Stand}
 use Rattle.nt_event.specs.declared.numbers.CpuNo.{CpuNo}
 use Rattle.nt_event.specs.declared.scripts.Script.{Script}
-use Rattle.nt_event.specs.LaneStates.{LaneState, content, lane_state, told_at}
+use Rattle.nt_event.specs.LaneStates.{content, told_at}
 use Rattle.nt_event.specs.Lanes.{lane_number, what_lanes}
 use Rattle.nt_event.specs.Acts.{Found}
 use Rattle.nt_mark.specs.declared.view.Entry.{Entry}
@@ -16,21 +16,9 @@ use Rattle.nt_mark.specs.declared.view.View.{View}
 use Rattle.nt_mark.specs.Rule.{IsLongest}
 use Rattle.nt_mark.specs.Views.{entry, note_numbers, note_of}
 use Rattle.nt_states.specs.LaneLists.{LaneFits}
-use Rattle.nt_lane.specs.Records.{Knows}
-use Rattle.nt_lane.specs.Views.{Grows}
-
-abbrev pub first_state : LaneState → List LaneState → LaneState
-first_state x [] = x
-first_state x (y ∷ ys) = y
-
--- the state that the last note of a list shows, or the opening one
-abbrev pub last_shown : LaneState → List Note → LaneState
-last_shown x [] = x
-last_shown x (n ∷ ns) = last_shown (first_state x n.states) ns
-
--- the state of a lane after this list
-abbrev pub state_noted : Script → Lane → List Note → LaneState
-state_noted s x notes = last_shown (lane_state s x []) notes
+use Rattle.nt_lane_record.specs.Held.{state_noted}
+use Rattle.nt_lane_record.specs.Records.{Knows}
+use Rattle.nt_lane_record.specs.Passes.{Grows}
 
 -- the state found is the one that this list leaves
 pub record IsShown (s : Script) (f : Found) (x : Lane) (notes : List Note) : Type 0 where

@@ -27,12 +27,12 @@ use Rattle.nt_mark.specs.Views.{entry, note_of, reach, step_word}
 use Rattle.nt_states.specs.Timed.{MayTime}
 use Rattle.nt_states.specs.LaneLists.{AskFits}
 use Rattle.nt_states.specs.ThreadFits.{RunsHere, WhatFits, named_thread}
-use Rattle.nt_lane.specs.Changed.{MayChangeBoth, MayChangeObject, MayChangeQueue}
+use Rattle.nt_lane_record.specs.Changed.{MayChangeBoth, MayChangeObject, MayChangeQueue}
 use Rattle.nt_states.specs.ThreadLanes.{left}
-use Rattle.nt_lane.specs.Held.{GroupState, IsObjectThere, IsQueueThere, SpinFacts, group_content, next_of}
+use Rattle.nt_lane_record.specs.Held.{GroupState, IsObjectThere, IsQueueThere, SpinFacts, group_content, next_of}
 use Rattle.nt_lane.specs.Answers.{object_told}
 use Rattle.nt_lane.specs.Locks.{HeldLanes, Kept, in_each}
-use Rattle.nt_lane.specs.Records.{IsAskKnown, Knows, LaneRecord, told_then}
+use Rattle.nt_lane_record.specs.Records.{IsAskKnown, Knows, LaneRecord, told_then}
 
 -- the event of this number was drawn as one of these lanes, and what it asks for is known to have been asked
 pub record IsStep (s : Script) (v : View) (n : ℕ) (e : Event) (numbers : List ℕ) (asks : List Ask) : Type 0 where

@@ -17,9 +17,9 @@ use Rattle.nt_states.specs.Reads.{job_lanes}
 use Rattle.nt_lane.specs.declared.tries.Tried.{Tried}
 use Rattle.nt_lane.specs.declared.tries.Tried.TheVariants.{Again, Done, Refused}
 use Rattle.nt_lane.specs.Marked.{mark_for}
-use Rattle.nt_lane.specs.Records.{IsAskKnown}
+use Rattle.nt_lane_record.specs.Records.{IsAskKnown}
 use Rattle.nt_lane.specs.Seats.{AreShownOn, FoundBy}
-use Rattle.nt_lane.specs.Views.{Grows, Learns}
+use Rattle.nt_lane_record.specs.Passes.{Grows, Learns}
 
 -- the pass drew this event as touching these lanes, marked its asks, and drew, marked and looked at nothing else; what
 -- it knows may be more

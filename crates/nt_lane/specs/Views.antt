@@ -1,19 +1,19 @@
 -- What words and floors see of a pass.
 use Rattle.std.proofs.Common.{ap, append-nil, append_assoc, sym, ◌∙◌}
 use Rattle.std.specs.List.{list_any}
-use Rattle.std.specs.Prelude.{Bool, Contains, List, None, Some, [], false, length, map, refl, ℕ, ◌&&◌, ◌*◌, ◌++◌, ◌-◌}
-use Rattle.std.specs.Prelude.{◌==◌, ◌∷◌, ◌≡◌, ◌≤◌}
+use Rattle.std.specs.Prelude.{Bool, List, None, Some, [], false, length, map, refl, ℕ, ◌&&◌, ◌*◌, ◌++◌, ◌-◌}
+use Rattle.std.specs.Prelude.{◌==◌, ◌∷◌, ◌≡◌}
 use Rattle.nt_event.specs.declared.numbers.CpuNo.{CpuNo}
 use Rattle.nt_floor.specs.Lists.{Draw, Lists, Look as LookTold, Mark as MarkTold}
 use Rattle.nt_floor.specs.Views.{View as WordsView}
 use Rattle.nt_mark.specs.declared.marks.Marks.{Marks}
 use Rattle.nt_mark.specs.declared.view.Entry.{Entry}
-use Rattle.nt_mark.specs.declared.view.LaneList.{LaneList}
 use Rattle.nt_mark.specs.declared.view.Look.{Look}
 use Rattle.nt_mark.specs.declared.view.Mark.{Mark}
 use Rattle.nt_mark.specs.declared.view.View.{View}
 use Rattle.nt_mark.specs.Names.{cpus_of, limit_of}
 use Rattle.nt_mark.specs.Views.{reach, request_word, step_word}
+use Rattle.nt_lane_record.specs.Passes.{Grows, grows_same, grows_through}
 
 abbrev pub draw_told : Entry → Draw
 draw_told e = record { number = e.number; event = e.event; lanes = e.lanes }
@@ -51,24 +51,6 @@ words_of m v =
       told = λ x p c. 0;
     }
 
--- the second view has and knows all that the first had and knew
-pub record Grows (v w : View) : Type 0 where
-  pub parts : w.parts ≡ v.parts
-  pub entries : (e : Entry) → Contains v.entries e → Contains w.entries e
-  pub known : (e : Entry) → Contains v.known e → Contains w.known e
-  pub prefixes : (k : LaneList) → Contains v.prefixes k → Contains w.prefixes k
-
-pub grows_same : (v : View) → Grows v v
-grows_same v = record { parts = refl; entries = λ e h. h; known = λ e h. h; prefixes = λ k h. h }
-
-pub grows_through : (u v w : View) → Grows u v → Grows v w → Grows u w
-grows_through u v w g h = record {
-  parts = h.parts ∙ g.parts;
-  entries = λ e k. h.entries e (g.entries e k);
-  known = λ e k. h.known e (g.known e k);
-  prefixes = λ q k. h.prefixes q (g.prefixes q k);
-}
-
 -- the number of the last of these entries, or this one
 abbrev pub last_drawn : ℕ → List Entry → ℕ
 last_drawn n [] = n
@@ -96,11 +78,3 @@ seat_through l m n u v w g h = record {
   entries = h.entries ∙ (ap (λ (es : List Entry). es ++ h.more) g.entries ∙ append_assoc u.entries g.more h.more);
   last = h.last ∙ (ap (λ (k : ℕ). last_drawn k h.more) g.last ∙ last_drawn_of l g.more h.more);
 }
-
--- the seat drew, marked and looked at nothing; what it knows may be more
-pub record Learns (v w : View) : Type 0 where
-  pub entries : w.entries ≡ v.entries
-  pub marks : w.marks ≡ v.marks
-  pub looks : w.looks ≡ v.looks
-  pub least : (u : ℕ) → reach u v ≤ reach u w
-  pub grows : Grows v w

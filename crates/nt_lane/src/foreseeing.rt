@@ -3,9 +3,9 @@
 //! changed when the locks are taken, so it is a guess.
 use crate::lanes::Lanes;
 use crate::needs::{Needs, needs_of_job};
-use crate::states::Object;
 use nt_event::{Command, CpuNo, DpcNo, Job, Lane, Part, Plan};
 use nt_frame::StandView;
+use nt_lane_record::Object;
 use nt_mark::Shared;
 use std::sync::Wait;
 

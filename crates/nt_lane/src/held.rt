@@ -8,13 +8,13 @@ ghost use Rattle.nt_event.specs.Queues.{is_queue};
 ghost use Rattle.nt_event.specs.Script.{fits, has_cpu, has_dpc, has_lock};
 ghost use Rattle.nt_dpc.specs.Queues.{holds_dpc};
 ghost use Rattle.nt_lane.specs.Answers.{AreThere, BothAgree, IsHeld, held_lanes};
-ghost use Rattle.nt_lane.specs.Held.{IsGroupThere, IsObjectThere, IsQueueThere, IsSpinThere};
+ghost use Rattle.nt_lane_record.specs.Held.{IsGroupThere, IsObjectThere, IsQueueThere, IsSpinThere};
 ghost use Rattle.nt_timer.specs.Laws.{IsSized};
 
 use crate::needs::Needs;
-use crate::states::{Clock, Group, Object, Queue, Spin};
 use nt_dpc::{DpcObject, DpcQueue};
 use nt_event::{CpuNo, DpcNo, Lane, LockNo, Part, Script, TimerKey, TimerNo};
+use nt_lane_record::{Clock, Group, Object, Queue, Spin};
 use nt_states::{LaneAnswers, SpinLock};
 use nt_thread_lanes::Threads;
 use nt_timer::TimerQueue;
@@ -36,7 +36,7 @@ fn agree(object: &Object, queue: &Queue) -> bool
         (holds_dpc object.now.dpc queue.now.state.pending
         ≡ is_queue (option_map (λ at. at.queue) object.now.state.standing) queue.now.cpu) }
 {
-    queue.inner().holds(object.dpc) == stands_in(object, queue.cpu)
+    queue.inner().holds(object.dpc()) == stands_in(object, queue.cpu())
 }
 
 /// The same, where both are held.
@@ -132,20 +132,20 @@ impl<'h, 's> Held<'h, 's> {
     {
         match lane {
             Lane::Object(d) => match self.object {
-                Some(object) => object.dpc.0 == d.0,
+                Some(object) => object.dpc().0 == d.0,
                 None => false,
             },
             Lane::Queue(p) => match self.queue {
-                Some(queue) => queue.cpu.0 == p.0,
+                Some(queue) => queue.cpu().0 == p.0,
                 None => false,
             },
             Lane::Threads(p) => match self.group {
-                Some(group) => group.cpu.0 == p.0,
+                Some(group) => group.cpu().0 == p.0,
                 None => false,
             },
             Lane::Timers => self.timers.is_some(),
             Lane::Lock(k) => match self.spin_lock {
-                Some(spin) => spin.lock.0 == k.0,
+                Some(spin) => spin.lock().0 == k.0,
                 None => false,
             },
         }
@@ -154,19 +154,19 @@ impl<'h, 's> Held<'h, 's> {
     /// The locks by which they are held.
     pub(crate) fn needs(&self) -> Needs {
         let object = match self.object {
-            Some(object) => Some(object.dpc),
+            Some(object) => Some(object.dpc()),
             None => None,
         };
         let queue = match self.queue {
-            Some(queue) => Some(queue.cpu),
+            Some(queue) => Some(queue.cpu()),
             None => None,
         };
         let group = match self.group {
-            Some(group) => Some(group.cpu),
+            Some(group) => Some(group.cpu()),
             None => None,
         };
         let spin_lock = match self.spin_lock {
-            Some(spin) => Some(spin.lock),
+            Some(spin) => Some(spin.lock()),
             None => None,
         };
         Needs {

@@ -6,23 +6,14 @@ ghost use Rattle.nt_event.specs.Script.{fits};
 ghost use Rattle.nt_lane.specs.Pieces.{AreClosed, ArePiecesOf};
 ghost use Rattle.nt_mark.specs.Closing.{AreNewKeepers};
 
-use crate::lane::Lane;
 use crate::making::{self, NewKeepers};
-use crate::record::Holds;
-use crate::states::{Clock, Group, Object, Queue, Spin};
-use nt_event::{Event, Plan, Script};
+use nt_event::{Plan, Script};
+use nt_lane_record::{Clock, Group, Holds, Lane, Object, Piece, Queue, Spin};
 use nt_mark::{Keeper, Shared};
 use nt_outside::Gate;
 use std::alloc::{AllocError, Global};
 use std::marker::PhantomData;
 use std::sync::{Mutex, Wait};
-
-/// The list of one lane: its number, and its events with their numbers.
-#[derive(Drop)]
-pub struct Piece {
-    pub lane: u32,
-    pub entries: Vec<(u64, Event)>,
-}
 
 /// What [`Lanes::close`] gives: the list of each lane, and the keepers in the same order.
 #[derive(Drop)]

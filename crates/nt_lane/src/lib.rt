@@ -3,9 +3,9 @@
 //! What several processors share is cut into lanes: each DPC object, each processor's DPC queue,
 //! each processor's threads, the timers, and each spin lock of the script. [`Lanes`] has a lock of
 //! its own for each of them. An act holds one of each kind at most, since `Locked` has a place for
-//! one. It takes them in this order, which no clause says. Behind a lock stand the lane's state,
-//! the list of its events with their numbers, per processor and class the greatest value asked on
-//! the lane, and the lane's keeper of `nt_mark`.
+//! one. It takes them in this order, which no clause says. Behind a lock stands a `Lane` of
+//! `nt_lane_record`: the lane's state, the list of its events with their numbers, per processor and
+//! class the greatest value asked on the lane, and the lane's keeper of `nt_mark`.
 //!
 //! The lock of a spin lock's lane is not that spin lock: it is held for the time of one act, as the
 //! lock of any other lane. Which processor's frame holds the spin lock, and who spins on it, is the
@@ -27,23 +27,18 @@ mod deciding;
 mod floor;
 mod foreseeing;
 mod held;
-mod lane;
 mod lanes;
-mod leaving;
 mod locks;
 mod making;
 mod marking;
 mod needs;
 mod noting;
-mod numbers;
 mod planning;
 mod reading;
-mod record;
 mod seat;
 mod standing;
-mod states;
 mod touching;
 mod tries;
 
-pub use lanes::{Lanes, Piece, Pieces};
+pub use lanes::{Lanes, Pieces};
 pub use seat::LaneSeat;

@@ -5,10 +5,8 @@ ghost use Rattle.nt_event.specs.Lanes.{lane_count, lane_number, lanes_at};
 ghost use Rattle.nt_event.specs.Script.{fits, has_cpu, has_dpc, has_lock};
 ghost use Rattle.nt_mark.specs.Closing.{AreNewKeepers, IsNewKeeper};
 
-use crate::lane::Lane;
-use crate::record::{Holds, Record};
-use crate::states::{Clock, Group, Object, Queue, Spin};
 use nt_event::{CpuNo, DpcNo, Lane as LaneName, LockNo, Plan, Script};
+use nt_lane_record::{Clock, Group, Holds, Lane, Object, Queue, Record, Spin};
 use nt_mark::{Keeper, Shared};
 use std::alloc::{AllocError, Global};
 use std::marker::{Model, PhantomData};

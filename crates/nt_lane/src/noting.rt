@@ -5,23 +5,19 @@ ghost use Rattle.nt_event.specs.LaneStates.{OfLock, OfObject, OfQueue, OfTimers}
 ghost use Rattle.nt_event.specs.Objects.{ObjectState};
 ghost use Rattle.nt_event.specs.Script.{fits};
 ghost use Rattle.nt_event.specs.Timers.{timers_after};
-ghost use Rattle.nt_lane.specs.Held.{group_content};
-ghost use Rattle.nt_lane.specs.Records.{IsNoted, told_then};
+ghost use Rattle.nt_lane_record.specs.Held.{group_content};
+ghost use Rattle.nt_lane_record.specs.Records.{IsNoted, told_then};
 ghost use Rattle.nt_lane.specs.Steps.{IsReady, IsStep, KnowsLeft, MayLeaveBoth, MayLeaveGroup};
 ghost use Rattle.nt_lane.specs.Steps.{MayLeaveObject, MayLeaveQueue, MayLeaveSpin, MayLeaveTimers};
 ghost use Rattle.nt_lane.specs.Steps.{note_left, object_left, queue_left, spin_left};
-ghost use Rattle.nt_lane.specs.Views.{Learns};
+ghost use Rattle.nt_lane_record.specs.Passes.{Learns};
 ghost use Rattle.nt_mark.specs.Names.{pass_table, pass_view, table_of};
 ghost use Rattle.nt_states.specs.ThreadLanes.{left};
 
-use crate::lane::Lane;
-use crate::leaving::leave_both;
-use crate::numbers::Numbers;
 use crate::planning::Plan;
-use crate::record::{Holds, Record};
-use crate::states::{Clock, Group, Object, Queue, Spin};
 use nt_event::Script;
 use nt_frame::StandView;
+use nt_lane_record::{Clock, Group, Holds, Lane, Numbers, Object, Queue, Record, Spin, leave_both};
 use nt_mark::{Marks, Pass, Shared};
 
 /// An event that was drawn, of a processor that stands so, with the numbers of its lanes.

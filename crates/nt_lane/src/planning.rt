@@ -10,7 +10,7 @@ ghost use Rattle.nt_event.specs.declared.jobs.Lane.TheVariants.{Timers as Timers
 ghost use Rattle.nt_event.specs.Acts.{KindsFit, StandFits, job_fits};
 ghost use Rattle.nt_lane.specs.Answers.{IsHeld, held_lanes, threads_told};
 ghost use Rattle.nt_lane.specs.Decided.{IsEvent};
-ghost use Rattle.nt_lane.specs.Held.{IsGroupThere, IsObjectThere, IsQueueThere, IsSpinThere};
+ghost use Rattle.nt_lane_record.specs.Held.{IsGroupThere, IsObjectThere, IsQueueThere, IsSpinThere};
 ghost use Rattle.nt_lane.specs.Leaving.{Leaves, MakerRuns};
 ghost use Rattle.nt_lane.specs.Plans.{IsPlanned};
 ghost use Rattle.nt_states.specs.Given.{IsGiven, RunsOwn};
@@ -23,10 +23,10 @@ use crate::deciding::{Decided, decide};
 use crate::held::Held;
 use crate::needs::{Needs, needs_of_job};
 use crate::reading::{holds_all, reads_event};
-use crate::states::{Clock, Group, Object, Queue, Spin};
 use nt_event::{Command, Event, Job, Lane, Script, What};
 use nt_floor::ActRefusal;
 use nt_frame::StandView;
+use nt_lane_record::{Clock, Group, Object, Queue, Spin};
 use nt_states::{Asks, LaneAnswers, Touched};
 use nt_thread_lanes::named_thread;
 

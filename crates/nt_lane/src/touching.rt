@@ -11,14 +11,13 @@ ghost use Rattle.nt_lane.specs.Steps.{LeavesGroup, LeavesObject, LeavesQueue, Le
 ghost use Rattle.nt_lane.specs.Steps.{LeavesTimers, MayLeaveGroup, MayLeaveObject, MayLeaveQueue};
 ghost use Rattle.nt_lane.specs.Steps.{MayLeaveSpin, MayLeaveTimers, is_touched, object_name};
 ghost use Rattle.nt_lane.specs.Steps.{queue_name};
-ghost use Rattle.nt_lane.specs.Views.{Learns};
+ghost use Rattle.nt_lane_record.specs.Passes.{Learns};
 ghost use Rattle.nt_mark.specs.Names.{pass_table, pass_view, table_of};
 
-use crate::lane::Lane;
 use crate::locks::Locked;
 use crate::noting::{Step, note_both, note_group, note_object, note_queue, note_spin, note_timers};
-use crate::states::{Clock, Group, Object, Queue, Spin};
 use nt_event::{Lane as LaneName, Plan};
+use nt_lane_record::{Clock, Group, Lane, Object, Queue, Spin};
 use nt_mark::{Marks, Pass, Shared};
 use std::sync::MutexGuard;
 
@@ -94,7 +93,7 @@ fn touch_group<'s, N: Plan + Shared>(
     if let Some(lane) = lane {
         let lane = &mut **lane;
         if touches(
-            LaneName::Threads(lane.state.cpu),
+            LaneName::Threads(lane.state.cpu()),
             step.plan.lanes.as_slice(),
         ) {
             note_group::<N>(lane, marks, pass, step);
@@ -159,7 +158,10 @@ fn touch_spin<N: Plan + Shared>(
 {
     if let Some(lane) = lane {
         let lane = &mut **lane;
-        if touches(LaneName::Lock(lane.state.lock), step.plan.lanes.as_slice()) {
+        if touches(
+            LaneName::Lock(lane.state.lock()),
+            step.plan.lanes.as_slice(),
+        ) {
             note_spin::<N>(lane, marks, pass, step);
         }
     }
@@ -176,7 +178,7 @@ fn object_touched<N: Plan + Shared>(
         lanes.now }
 {
     match lane {
-        Some(lane) => touches(LaneName::Object(lane.state.dpc), lanes),
+        Some(lane) => touches(LaneName::Object(lane.state.dpc()), lanes),
         None => false,
     }
 }
@@ -192,7 +194,7 @@ fn queue_touched<N: Plan + Shared>(
         lanes.now }
 {
     match lane {
-        Some(lane) => touches(LaneName::Queue(lane.state.cpu), lanes),
+        Some(lane) => touches(LaneName::Queue(lane.state.cpu()), lanes),
         None => false,
     }
 }

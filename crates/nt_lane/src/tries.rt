@@ -16,11 +16,11 @@ use crate::locks::Locked;
 use crate::marking::mark_all;
 use crate::needs::Needs;
 use crate::noting::Step;
-use crate::numbers::{Numbers, touched_numbers};
 use crate::planning::{Plan, Planned};
 use nt_event::{Job, Rises, Script};
 use nt_floor::{ActRefusal, Acted};
 use nt_frame::StandView;
+use nt_lane_record::{Numbers, touched_numbers};
 use nt_mark::{Marks, Pass, Shared};
 use nt_states::tell_own;
 

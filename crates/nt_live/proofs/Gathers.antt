@@ -9,7 +9,7 @@ use Rattle.nt_event.specs.Numbers.{cpu}
 use Rattle.nt_event.specs.Robin.{is_settled}
 use Rattle.nt_event.specs.Step.{IsRun}
 use Rattle.nt_mark.specs.declared.view.View.{View}
-use Rattle.nt_lane.specs.declared.lanes.Piece.{Piece}
+use Rattle.nt_lane_record.specs.declared.piece.Piece.{Piece}
 use Rattle.nt_live.specs.Gathered.{GoesByRobin}
 use Rattle.nt_live.specs.LanePieces.{ArePieces, IsGatheredWith}
 use Rattle.nt_live.specs.Merging.{IsWorked}

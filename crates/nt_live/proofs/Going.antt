@@ -35,7 +35,8 @@ use Rattle.nt_floor.specs.Lists.{Lists, with_draw, with_marks}
 use Rattle.nt_floor.specs.Views.{HasWord, IsMoved, View as WordsView}
 use Rattle.nt_lane.specs.Marked.{mark_for}
 use Rattle.nt_lane.specs.Seats.{AreFoundOn, FoundBy, found_later}
-use Rattle.nt_lane.specs.Views.{Grows, words_of}
+use Rattle.nt_lane_record.specs.Passes.{Grows}
+use Rattle.nt_lane.specs.Views.{words_of}
 use Rattle.nt_mark.specs.declared.marks.Marks.{Marks}
 use Rattle.nt_mark.specs.declared.view.Entry.{Entry}
 use Rattle.nt_mark.specs.declared.view.Look.{Look}
@@ -45,7 +46,7 @@ use Rattle.nt_mark.specs.Names.{cpus_of}
 use Rattle.nt_mark.specs.Views.{entry, look_of, reach, request_word, step_word}
 use Rattle.nt_states.specs.LaneLists.{LaneFits}
 use Rattle.nt_cpu.proofs.StepsMade.{needed_job}
-use Rattle.nt_lane.proofs.Tying.{here, one_of}
+use Rattle.nt_lane_record.proofs.Tying.{here, one_of}
 use Rattle.nt_live.proofs.Told.{Told, look_back, told_lists}
 use Rattle.nt_live.specs.Going.{AdvancesKeepWork, LooksKeepWork}
 use Rattle.nt_live.specs.Workers.{AreAsked, AreBelow, AreSteps, AtLook, IsAtWork, LooksAt, all_drawn, all_marks, asks_then}

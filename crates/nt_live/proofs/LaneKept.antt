@@ -17,7 +17,7 @@ use Rattle.nt_mark.specs.Names.{keeper_lane, keeper_notes}
 use Rattle.nt_mark.specs.Views.{note_numbers}
 use Rattle.nt_states.specs.LaneLists.{lane_fits}
 use Rattle.nt_compose.specs.Noted.{Noted, Rises, last_noted}
-use Rattle.nt_lane.specs.Seats.{first_state, last_shown}
+use Rattle.nt_lane_record.specs.Held.{first_state, last_shown}
 
 -- ---- lanes by their numbers
 

@@ -15,7 +15,7 @@ use Rattle.nt_mark.specs.declared.seats.Pass.{Pass}
 use Rattle.nt_mark.specs.Closing.{IsEachOnce, IsOfEntry, IsOfKeeper, WasAsked, passes, seat_views}
 use Rattle.nt_mark.specs.Names.{keeper_lane, keeper_lanes, keeper_notes, keeper_table, keeper_view, keeper_views, pass_view, pass_views}
 use Rattle.nt_mark.specs.Views.{entry_numbers, note_numbers}
-use Rattle.nt_lane.specs.declared.lanes.Piece.{Piece}
+use Rattle.nt_lane_record.specs.declared.piece.Piece.{Piece}
 use Rattle.nt_lane.specs.Pieces.{ArePiecesOf}
 use Rattle.nt_live.specs.Merging.{ArePlaced, IsMerged, numbers_of}
 use Rattle.nt_live.specs.Workers.{pairs_of}

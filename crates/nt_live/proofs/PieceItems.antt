@@ -21,9 +21,10 @@ use Rattle.nt_compose.proofs.Composing.{length_events}
 use Rattle.nt_compose.proofs.Parting.{heads, tails}
 use Rattle.nt_compose.specs.Composition.{Placed, events}
 use Rattle.nt_compose.specs.Parts.{Numbered}
-use Rattle.nt_lane.specs.declared.lanes.Piece.{Piece}
-use Rattle.nt_lane.specs.Pieces.{ArePiecesOf, IsPieceOf}
-use Rattle.nt_lane.specs.Records.{IsKnownWith, item_numbers}
+use Rattle.nt_lane_record.specs.declared.piece.Piece.{Piece}
+use Rattle.nt_lane_record.specs.Pieces.{IsPieceOf}
+use Rattle.nt_lane.specs.Pieces.{ArePiecesOf}
+use Rattle.nt_lane_record.specs.Records.{IsKnownWith, item_numbers}
 use Rattle.nt_live.specs.Gathered.{pair_of}
 use Rattle.nt_live.specs.Gathering.{AreTogether, IsClosed, IsWhole}
 use Rattle.nt_live.specs.LanePieces.{IsItsPiece, KnowsOnly, ListsArePieces}

@@ -32,7 +32,8 @@ use Rattle.nt_event.specs.Acts.{Found}
 use Rattle.nt_floor.specs.Lists.{Lists, Look as LookTold, with_draw, with_marks}
 use Rattle.nt_floor.specs.Views.{HasWord, IsMoved, IsUnmoved, View as WordsView}
 use Rattle.nt_lane.specs.Seats.{AreListed, FoundBy}
-use Rattle.nt_lane.specs.Views.{Grows, SeatGrows, drawable_of, last_drawn, lists_of, look_told, words_of}
+use Rattle.nt_lane_record.specs.Passes.{Grows}
+use Rattle.nt_lane.specs.Views.{SeatGrows, drawable_of, last_drawn, lists_of, look_told, words_of}
 use Rattle.nt_mark.specs.declared.marks.Marks.{Marks}
 use Rattle.nt_mark.specs.declared.seats.Pass.{Pass}
 use Rattle.nt_mark.specs.declared.view.Entry.{Entry}

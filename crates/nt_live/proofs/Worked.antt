@@ -23,7 +23,7 @@ use Rattle.nt_cpu.specs.States.{CpuState}
 use Rattle.nt_mark.specs.declared.view.View.{View}
 use Rattle.nt_mark.specs.Closing.{IsEachOnce}
 use Rattle.nt_mark.specs.Views.{reach, request_word}
-use Rattle.nt_lane.specs.declared.lanes.Piece.{Piece}
+use Rattle.nt_lane_record.specs.declared.piece.Piece.{Piece}
 use Rattle.nt_live.proofs.Doneness.{all_done_settles}
 use Rattle.nt_live.proofs.InPart.{Here, in_part}
 use Rattle.nt_live.proofs.Joining.{looked_on}

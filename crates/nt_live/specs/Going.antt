@@ -8,7 +8,8 @@ use Rattle.nt_event.specs.declared.numbers.CpuNo.{CpuNo}
 use Rattle.nt_event.specs.declared.scripts.Script.{Script}
 use Rattle.nt_floor.specs.Views.{View as WordsView}
 use Rattle.nt_lane.specs.Seats.{FoundBy}
-use Rattle.nt_lane.specs.Views.{Grows, words_of}
+use Rattle.nt_lane_record.specs.Passes.{Grows}
+use Rattle.nt_lane.specs.Views.{words_of}
 use Rattle.nt_mark.specs.declared.marks.Marks.{Marks}
 use Rattle.nt_mark.specs.declared.view.Look.{Look}
 use Rattle.nt_mark.specs.declared.view.View.{View}

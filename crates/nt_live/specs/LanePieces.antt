@@ -15,7 +15,7 @@ use Rattle.nt_mark.specs.declared.view.View.{View}
 use Rattle.nt_mark.specs.Closing.{IsEachOnce}
 use Rattle.nt_mark.specs.Names.{keeper_lane, keeper_notes, keeper_view}
 use Rattle.nt_mark.specs.Views.{note_numbers}
-use Rattle.nt_lane.specs.declared.lanes.Piece.{Piece}
+use Rattle.nt_lane_record.specs.declared.piece.Piece.{Piece}
 use Rattle.nt_lane.specs.Pieces.{ArePiecesOf}
 use Rattle.nt_live.specs.Gathered.{IsGathered, pair_of}
 use Rattle.nt_live.specs.Gathering.{AreTogether, IsClosed, IsWhole}

@@ -8,7 +8,7 @@ use Rattle.nt_event.specs.Step.{IsRun}
 use Rattle.nt_cpu.specs.States.{CpuState}
 use Rattle.nt_mark.specs.declared.seats.Keeper.{Keeper}
 use Rattle.nt_mark.specs.declared.view.View.{View}
-use Rattle.nt_lane.specs.declared.lanes.Piece.{Piece}
+use Rattle.nt_lane_record.specs.declared.piece.Piece.{Piece}
 use Rattle.nt_lane.specs.Pieces.{ArePiecesOf}
 use Rattle.nt_live.specs.Gathered.{IsItsPart}
 use Rattle.nt_live.specs.Gathering.{IsClosed}

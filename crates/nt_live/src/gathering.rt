@@ -20,7 +20,8 @@ use crate::worker::Worker;
 use nt_cpu::no_event;
 use nt_event::{Event, Plan, Script};
 use nt_history::{Events, History};
-use nt_lane::{Lanes, Piece, Pieces};
+use nt_lane::{Lanes, Pieces};
+use nt_lane_record::Piece;
 use nt_mark::{Marks, Pass, Shared};
 use std::alloc::{AllocError, Global};
 

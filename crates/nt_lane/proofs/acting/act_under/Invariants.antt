@@ -1,6 +1,6 @@
 use Rattle.std.specs.Prelude.{◌≡◌}
 use Rattle.nt_mark.specs.Names.{pass_table, pass_view}
-use Rattle.nt_lane.specs.Views.{Learns}
+use Rattle.nt_lane_record.specs.Passes.{Learns}
 use Rattle.nt_lane.proofs.acting.act_under.Given as goal
 
 -- the pass only learned

@@ -10,11 +10,11 @@ use Rattle.nt_dpc.specs.Objects.{ObjectFacts}
 use Rattle.nt_dpc.specs.Queues.{QueueFacts}
 use Rattle.nt_dpc_lanes.specs.Changes.{change_of}
 use Rattle.nt_mark.specs.Names.{pass_view}
-use Rattle.nt_lane.specs.Changed.{MayChangeBoth}
-use Rattle.nt_lane.specs.Held.{IsLastNoted, IsObjectThere, IsQueueThere, next_of}
+use Rattle.nt_lane_record.specs.Changed.{MayChangeBoth}
+use Rattle.nt_lane_record.specs.Held.{IsLastNoted, IsObjectThere, IsQueueThere, next_of}
 use Rattle.nt_lane.specs.Steps.{object_left, queue_left}
 use Rattle.nt_lane.proofs.Noted.{knows_later, knows_noted, last_noted, step_later}
-use Rattle.nt_lane.proofs.Tying.{learns_through}
+use Rattle.nt_lane_record.proofs.Tying.{learns_through}
 use Rattle.nt_lane.proofs.noting.note_both.Goals as goal
 
 pub leave_both-requires : goal.leave_both-requires

@@ -4,7 +4,7 @@ use Rattle.nt_event.specs.declared.jobs.Lane.TheVariants.{Threads as ThreadsLane
 use Rattle.nt_event.specs.declared.numbers.CpuNo.{CpuNo}
 use Rattle.nt_mark.specs.Names.{pass_view}
 use Rattle.nt_states.specs.ThreadLanes.{left}
-use Rattle.nt_lane.specs.Held.{GroupState, IsGroupThere, IsLastNoted, group_content, next_of}
+use Rattle.nt_lane_record.specs.Held.{GroupState, IsGroupThere, IsLastNoted, group_content, next_of}
 use Rattle.nt_lane.proofs.Noted.{group_there, knows_noted, last_noted}
 use Rattle.nt_lane.proofs.noting.note_group.Goals as goal
 

@@ -5,7 +5,7 @@ use Rattle.nt_event.specs.declared.numbers.DpcNo.{DpcNo}
 use Rattle.nt_event.specs.LaneStates.{OfObject}
 use Rattle.nt_dpc.specs.Objects.{ObjectFacts}
 use Rattle.nt_mark.specs.Names.{pass_view}
-use Rattle.nt_lane.specs.Held.{IsLastNoted, IsObjectThere, next_of}
+use Rattle.nt_lane_record.specs.Held.{IsLastNoted, IsObjectThere, next_of}
 use Rattle.nt_lane.specs.Steps.{object_left}
 use Rattle.nt_lane.proofs.Noted.{knows_noted, last_noted}
 use Rattle.nt_lane.proofs.noting.note_object.Goals as goal

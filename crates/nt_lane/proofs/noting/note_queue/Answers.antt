@@ -6,7 +6,7 @@ use Rattle.nt_event.specs.LaneStates.{OfQueue}
 use Rattle.nt_event.specs.Queues.{queue_after}
 use Rattle.nt_dpc.specs.Queues.{QueueFacts}
 use Rattle.nt_mark.specs.Names.{pass_view}
-use Rattle.nt_lane.specs.Held.{IsLastNoted, IsQueueThere, next_of}
+use Rattle.nt_lane_record.specs.Held.{IsLastNoted, IsQueueThere, next_of}
 use Rattle.nt_lane.specs.Steps.{queue_left}
 use Rattle.nt_lane.proofs.Noted.{knows_noted, last_noted}
 use Rattle.nt_lane.proofs.noting.note_queue.Goals as goal

@@ -7,7 +7,7 @@ use Rattle.nt_event.specs.declared.numbers.LockNo.{LockNo}
 use Rattle.nt_event.specs.LaneStates.{OfLock}
 use Rattle.nt_event.specs.Locks.{lock_move, lock_moved}
 use Rattle.nt_mark.specs.Names.{pass_view}
-use Rattle.nt_lane.specs.Held.{IsLastNoted, IsSpinThere, SpinFacts, next_of}
+use Rattle.nt_lane_record.specs.Held.{IsLastNoted, IsSpinThere, SpinFacts, next_of}
 use Rattle.nt_lane.specs.Steps.{spin_left}
 use Rattle.nt_lane.proofs.Noted.{knows_noted, last_noted}
 use Rattle.nt_lane.proofs.Spun.{spin_stays}

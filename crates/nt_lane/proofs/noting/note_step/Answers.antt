@@ -2,7 +2,7 @@ use Rattle.std.proofs.Common.{subst}
 use Rattle.std.specs.Prelude.{List}
 use Rattle.nt_event.specs.Requests.{Ask}
 use Rattle.nt_mark.specs.Names.{pass_view}
-use Rattle.nt_lane.specs.Records.{IsNoted, told_then}
+use Rattle.nt_lane_record.specs.Records.{IsNoted, told_then}
 use Rattle.nt_lane.specs.Steps.{note_left}
 use Rattle.nt_lane.proofs.noting.note_step.Goals as goal
 

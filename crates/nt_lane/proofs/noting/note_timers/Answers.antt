@@ -7,7 +7,7 @@ use Rattle.nt_event.specs.Timers.{Timers, timers_after}
 use Rattle.nt_states.specs.Timed.{MayTime}
 use Rattle.nt_mark.specs.Names.{pass_view}
 use Rattle.nt_timer.specs.Laws.{IsSized}
-use Rattle.nt_lane.specs.Held.{next_of}
+use Rattle.nt_lane_record.specs.Held.{next_of}
 use Rattle.nt_lane.proofs.Noted.{knows_noted, last_noted, time_before, time_below, time_left, time_noted}
 use Rattle.nt_lane.proofs.noting.note_timers.Goals as goal
 

@@ -9,7 +9,7 @@ use Rattle.nt_event.specs.declared.class.Asked.{Asked}
 use Rattle.nt_states.specs.LaneLists.{AskFits, as_asks}
 use Rattle.nt_lane.specs.Tries.{HasMade}
 use Rattle.nt_lane.proofs.Drawn.{has_made, made_contains}
-use Rattle.nt_lane.proofs.Tying.{here}
+use Rattle.nt_lane_record.proofs.Tying.{here}
 use Rattle.nt_lane.proofs.tries.draw_plan.Goals as goal
 
 pub mark_all-requires-clause-words : goal.mark_all-requires-clause-words

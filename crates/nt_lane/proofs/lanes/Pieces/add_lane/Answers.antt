@@ -1,7 +1,7 @@
 use Rattle.std.proofs.Common.{subst, sym}
 use Rattle.std.specs.Prelude.{List, [], ◌++◌, ◌∷◌}
 use Rattle.nt_mark.specs.declared.seats.Keeper.{Keeper}
-use Rattle.nt_lane.specs.declared.lanes.Piece.{Piece}
+use Rattle.nt_lane_record.specs.declared.piece.Piece.{Piece}
 use Rattle.nt_lane.specs.Pieces.{ArePiecesOf}
 use Rattle.nt_lane.proofs.Gathering.{pieces_more}
 use Rattle.nt_lane.proofs.lanes.Pieces.add_lane.Goals as goal

@@ -3,7 +3,7 @@ use Rattle.nt_lane.specs.Locks.{HeldLanes}
 use Rattle.nt_lane.specs.Steps.{AreLeftBy}
 use Rattle.nt_mark.specs.Names.{pass_view}
 use Rattle.nt_lane.proofs.Noted.{all_left}
-use Rattle.nt_lane.proofs.Tying.{learns_through}
+use Rattle.nt_lane_record.proofs.Tying.{learns_through}
 use Rattle.nt_lane.proofs.locks.Locked.note.Goals as goal
 
 pub returns-clause-learns : goal.returns-clause-learns

@@ -7,8 +7,9 @@ use Rattle.nt_mark.specs.declared.view.View.{View}
 use Rattle.nt_mark.specs.Names.{pass_view}
 use Rattle.nt_mark.specs.Views.{entry}
 use Rattle.nt_lane.specs.Seats.{AreListed}
-use Rattle.nt_lane.proofs.Passes.{grows_by, listed_drawn}
-use Rattle.nt_lane.proofs.Tying.{here}
+use Rattle.nt_lane_record.proofs.Growing.{grows_by}
+use Rattle.nt_lane.proofs.Passes.{listed_drawn}
+use Rattle.nt_lane_record.proofs.Tying.{here}
 use Rattle.nt_lane.proofs.seat.LaneSeatWords.draw.Goals as goal
 
 pub returns-clause-grows : goal.returns-clause-grows

@@ -3,8 +3,9 @@ use Rattle.std.proofs.Math.Logic.{∥∥₁_map}
 use Rattle.std.specs.Prelude.{[]}
 use Rattle.nt_mark.specs.declared.view.View.{View}
 use Rattle.nt_mark.specs.Names.{pass_view}
-use Rattle.nt_lane.specs.Views.{Grows}
-use Rattle.nt_lane.proofs.Passes.{grows_by, listed_grows}
+use Rattle.nt_lane_record.specs.Passes.{Grows}
+use Rattle.nt_lane_record.proofs.Growing.{grows_by}
+use Rattle.nt_lane.proofs.Passes.{listed_grows}
 use Rattle.nt_lane.proofs.seat.LaneSeatWords.mark.Goals as goal
 
 pub returns-clause-grows : goal.returns-clause-grows

@@ -1,0 +1,5 @@
+pub mod Passes
+pub mod Records
+pub mod Held
+pub mod Pieces
+pub mod Changed
