@@ -1,6 +1,7 @@
 //! The DPC objects and queues of a small script, by the events that its processors make.
-ghost use Rattle.std.specs.Prelude.{◌≡◌, ◌<◌, ◌+◌, IfOk, OnOk, length};
+ghost use Rattle.std.specs.Prelude.{◌≡◌, ◌<◌, ◌+◌, IfOk, IsTrue, OnOk, length};
 ghost use Rattle.nt_event.specs.Replies.{yes_if};
+ghost use Rattle.nt_event.specs.Script.{fits};
 
 use nt_dpc_lanes::Dpcs;
 use nt_event::{
@@ -25,10 +26,20 @@ pub fn answer(rt: HostRuntime, case: &str) -> io::Result<()> {
 /// Writes the answers of a case that begins with the small script.
 fn started(rt: HostRuntime, case: &str) -> io::Result<()> {
     let script = script(rt.alloc(), None)?;
-    if !script.fits() {
-        return println!(rt; "  no fit");
+    if script.fits() {
+        started_with(rt, case, &script)
+    } else {
+        println!(rt; "  no fit")
     }
-    let mut dpcs = Dpcs::new(rt.alloc(), &script)?;
+}
+
+/// Writes the answers of a case that begins with this script.
+fn started_with(rt: HostRuntime, case: &str, script: &Script) -> io::Result<()>
+    requires fits { IsTrue (fits script.now) }
+    requires objects { length script.now.dpcs ≡ 3 }
+    requires cpus { script.now.cpus ≡ 2 }
+{
+    let mut dpcs = Dpcs::new(rt.alloc(), script)?;
     answer_of(rt, case, &mut dpcs)
 }
 
@@ -54,6 +65,7 @@ fn script(alloc: Global, threaded: Option<bool>) -> Result<Script, AllocError>
     let routine = Routine {
         commands: Items::new(alloc),
     };
+    let routines = vec![in alloc; routine]?;
     let mut made = Script {
         cpus: 2,
         depth: None,
@@ -63,7 +75,7 @@ fn script(alloc: Global, threaded: Option<bool>) -> Result<Script, AllocError>
         timers: Items::new(alloc),
         threads: Items::new(alloc),
         apcs: Items::new(alloc),
-        routines: Items::from_vec(vec![in alloc; routine]?),
+        routines: Items::from_vec(routines),
         locks: 0,
     };
     declare(&mut made.dpcs)?;
@@ -294,10 +306,23 @@ fn threaded_answer(
     threaded: Option<bool>,
 ) -> Result<Option<(Option<u8>, bool)>, AllocError> {
     let script = script(alloc, threaded)?;
-    if !script.fits() {
-        return Ok(None);
+    if script.fits() {
+        threaded_answer_of(alloc, &script)
+    } else {
+        Ok(None)
     }
-    let mut dpcs = Dpcs::new(alloc, &script)?;
+}
+
+/// What such an insert answers with this script.
+fn threaded_answer_of(
+    alloc: Global,
+    script: &Script,
+) -> Result<Option<(Option<u8>, bool)>, AllocError>
+    requires fits { IsTrue (fits script.now) }
+    requires objects { length script.now.dpcs ≡ 3 }
+    requires cpus { script.now.cpus ≡ 2 }
+{
+    let mut dpcs = Dpcs::new(alloc, script)?;
     Ok(Some(threaded_insert(&mut dpcs)))
 }
 

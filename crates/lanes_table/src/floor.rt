@@ -20,10 +20,11 @@ use std::io;
 /// Writes the answers of a case.
 pub fn answer(rt: HostRuntime, case: &str) -> io::Result<()> {
     let script = script(rt.alloc())?;
-    if !script.fits() {
-        return println!(rt; "  no fit");
+    if script.fits() {
+        answer_of(rt, case, &script)
+    } else {
+        println!(rt; "  no fit")
     }
-    answer_of(rt, case, &script)
 }
 
 /// Writes the answers of a case of the small script.
@@ -51,6 +52,7 @@ fn script(alloc: Global) -> Result<Script, AllocError>
     let routine = Routine {
         commands: Items::new(alloc),
     };
+    let routines = vec![in alloc; routine]?;
     let mut made = Script {
         cpus: 2,
         depth: None,
@@ -60,7 +62,7 @@ fn script(alloc: Global) -> Result<Script, AllocError>
         timers: Items::new(alloc),
         threads: Items::new(alloc),
         apcs: Items::new(alloc),
-        routines: Items::from_vec(vec![in alloc; routine]?),
+        routines: Items::from_vec(routines),
         locks: 0,
     };
     declare(&mut made.dpcs, &mut made.threads)?;
@@ -133,13 +135,33 @@ fn an_insert_asks(rt: HostRuntime, script: &Script) -> io::Result<()>
     requires objects { length script.now.dpcs ≡ 1 }
     requires threads { length script.now.threads ≡ 1 }
 {
+    let frames = frames(rt.alloc(), CpuNo(0))?;
+    insert_over(rt, script, &frames)
+}
+
+/// The insert by the innermost of these frames.
+fn insert_over(rt: HostRuntime, script: &Script, frames: &Frames) -> io::Result<()>
+    requires fits { IsTrue (fits script.now) }
+    requires cpus { script.now.cpus ≡ 2 }
+    requires objects { length script.now.dpcs ≡ 1 }
+    requires threads { length script.now.threads ≡ 1 }
+    requires frames { frames.now ≡ begun 7 (Body.Dpc (record { 0 = 0 })) (no_frames 1) }
+{
     let mut floor = PlainFloor::new(rt.alloc(), script, 4)?;
     let queue = Command::Queue(DpcNo(0));
-    let frames = frames(rt.alloc(), CpuNo(0))?;
-    let stand = StandView::new(CpuNo(0), &frames, false);
+    let stand = StandView::new(CpuNo(0), frames, false);
     let acted = act(&mut floor, Job::Call(queue), &stand);
+    write_insert(rt, acted, &floor)
+}
+
+/// Writes the event that was made, or why none was, and who is asked then.
+fn write_insert(
+    rt: HostRuntime,
+    acted: Result<Acted, ActRefusal>,
+    floor: &PlainFloor<'_>,
+) -> io::Result<()> {
     write_act(rt, acted)?;
-    write_asks(rt, &floor)
+    write_asks(rt, floor)
 }
 
 fn write_act(rt: HostRuntime, acted: Result<Acted, ActRefusal>) -> io::Result<()> {
@@ -226,13 +248,37 @@ fn a_wrong_choice(rt: HostRuntime, script: &Script) -> io::Result<()>
     requires objects { length script.now.dpcs ≡ 1 }
     requires threads { length script.now.threads ≡ 1 }
 {
-    let mut floor = PlainFloor::new(rt.alloc(), script, 4)?;
-    write_next(rt, "1", floor.next_ready(CpuNo(1), None))?;
-    write_next(rt, "0", floor.next_ready(CpuNo(0), None))?;
-    let taken = Job::Switch(ThreadNo(0));
     let frames = frames(rt.alloc(), CpuNo(0))?;
-    let stand = StandView::new(CpuNo(0), &frames, false);
-    write_made(rt, act(&mut floor, taken, &stand))
+    choose_over(rt, script, &frames)
+}
+
+/// The choice where these are the frames of processor 0.
+fn choose_over(rt: HostRuntime, script: &Script, frames: &Frames) -> io::Result<()>
+    requires fits { IsTrue (fits script.now) }
+    requires cpus { script.now.cpus ≡ 2 }
+    requires objects { length script.now.dpcs ≡ 1 }
+    requires threads { length script.now.threads ≡ 1 }
+    requires frames { frames.now ≡ begun 7 (Body.Dpc (record { 0 = 0 })) (no_frames 1) }
+{
+    let mut floor = PlainFloor::new(rt.alloc(), script, 4)?;
+    let next = [
+        floor.next_ready(CpuNo(1), None),
+        floor.next_ready(CpuNo(0), None),
+    ];
+    let taken = Job::Switch(ThreadNo(0));
+    let stand = StandView::new(CpuNo(0), frames, false);
+    write_choice(rt, next, act(&mut floor, taken, &stand))
+}
+
+/// Writes the ready threads that processors 1 and 0 would take, and what came of a choice.
+fn write_choice(
+    rt: HostRuntime,
+    next: [Option<ThreadNo>; 2],
+    acted: Result<Acted, ActRefusal>,
+) -> io::Result<()> {
+    write_next(rt, "1", next[0])?;
+    write_next(rt, "0", next[1])?;
+    write_made(rt, acted)
 }
 
 fn nothing_to_do(rt: HostRuntime, script: &Script) -> io::Result<()>
@@ -241,8 +287,19 @@ fn nothing_to_do(rt: HostRuntime, script: &Script) -> io::Result<()>
     requires objects { length script.now.dpcs ≡ 1 }
     requires threads { length script.now.threads ≡ 1 }
 {
-    let mut floor = PlainFloor::new(rt.alloc(), script, 4)?;
     let frames = frames(rt.alloc(), CpuNo(1))?;
-    let stand = StandView::new(CpuNo(1), &frames, false);
+    idle_over(rt, script, &frames)
+}
+
+/// An idle processor's job where these are the frames of processor 1.
+fn idle_over(rt: HostRuntime, script: &Script, frames: &Frames) -> io::Result<()>
+    requires fits { IsTrue (fits script.now) }
+    requires cpus { script.now.cpus ≡ 2 }
+    requires objects { length script.now.dpcs ≡ 1 }
+    requires threads { length script.now.threads ≡ 1 }
+    requires frames { frames.now ≡ begun 7 (Body.Dpc (record { 0 = 0 })) (no_frames 1) }
+{
+    let mut floor = PlainFloor::new(rt.alloc(), script, 4)?;
+    let stand = StandView::new(CpuNo(1), frames, false);
     write_made(rt, act(&mut floor, Job::Idle, &stand))
 }

@@ -20,14 +20,19 @@ fn answer(rt: HostRuntime, part: &str, case: &str) -> io::Result<()> {
     }
 }
 
+/// Writes a line of the input, and the answers of its case.
+fn put_line(rt: HostRuntime, entry: &str) -> io::Result<()> {
+    println!(rt; "{entry}")?;
+    match entry.split_once(' ') {
+        Some((part, case)) => answer(rt, part, case),
+        None => println!(rt; "  no case"),
+    }
+}
+
 fn main(rt: HostRuntime) -> io::Result<()> {
     for line in rt.lines(rt.alloc()) {
         let entry = line?;
-        println!(rt; "{entry}")?;
-        match entry.as_str().split_once(' ') {
-            Some((part, case)) => answer(rt, part, case)?,
-            None => println!(rt; "  no case")?,
-        }
+        put_line(rt, entry.as_str())?;
     }
     Ok(())
 }

@@ -16,10 +16,11 @@ use std::io;
 /// Writes the answers of a case.
 pub fn answer(rt: HostRuntime, case: &str) -> io::Result<()> {
     let script = script(rt.alloc())?;
-    if !script.fits() || script.threads.len() != 3 || script.apcs.len() != 2 {
-        return println!(rt; "  no fit");
+    if script.fits() && script.threads.len() == 3 && script.apcs.len() == 2 {
+        answer_of(rt, case, &script)
+    } else {
+        println!(rt; "  no fit")
     }
-    answer_of(rt, case, &script)
 }
 
 /// Writes the answers of a case of the small script.
@@ -28,13 +29,33 @@ fn answer_of(rt: HostRuntime, case: &str, script: &Script) -> io::Result<()>
     requires threads { length script.now.threads ≡ 3 }
     requires apcs { length script.now.apcs ≡ 2 }
 {
+    let mut threads = Threads::new(rt.alloc(), script)?;
+    make_calls(rt, case, script, &mut threads)
+}
+
+/// Makes the calls of a case, with threads that have not run.
+fn make_calls(
+    rt: HostRuntime,
+    case: &str,
+    script: &Script,
+    threads: &mut Threads<'_>,
+) -> io::Result<()>
+    requires fits { IsTrue (fits script.now) }
+    requires script { threads.old.script ≡ script.now }
+    requires threads { length script.now.threads ≡ 3 }
+    requires apcs { length script.now.apcs ≡ 2 }
+{
     match case {
-        "ready threads are taken in a cycle" => ready_threads_are_taken_in_a_cycle(rt, script),
-        "a release ends a wait" => a_release_ends_a_wait(rt, script),
-        "a release is told to a record of another processor" => a_release_is_told(rt, script),
-        "apcs are inserted and removed" => apcs_are_inserted_and_removed(rt, script),
+        "ready threads are taken in a cycle" => ready_threads_are_taken_in_a_cycle(
+            rt, script, threads,
+        ),
+        "a release ends a wait" => a_release_ends_a_wait(rt, script, threads),
+        "a release is told to a record of another processor" => a_release_is_told(
+            rt, script, threads,
+        ),
+        "apcs are inserted and removed" => apcs_are_inserted_and_removed(rt, script, threads),
         "a user apc ends an alertable wait at once" => {
-            a_user_apc_ends_an_alertable_wait(rt, script)
+            a_user_apc_ends_an_alertable_wait(rt, script, threads)
         }
         _ => println!(rt; "  no such case"),
     }
@@ -85,6 +106,7 @@ fn script(alloc: Global) -> Result<Script, AllocError> {
     let routine = Routine {
         commands: Items::new(alloc),
     };
+    let routines = vec![in alloc; routine]?;
     let mut made = Script {
         cpus: 2,
         depth: None,
@@ -94,7 +116,7 @@ fn script(alloc: Global) -> Result<Script, AllocError> {
         timers: Items::new(alloc),
         threads: Items::new(alloc),
         apcs: Items::new(alloc),
-        routines: Items::from_vec(vec![in alloc; routine]?),
+        routines: Items::from_vec(routines),
         locks: 0,
     };
     declare(&mut made.threads, &mut made.apcs)?;
@@ -246,12 +268,16 @@ fn write_two(
     println!(rt; "  {first} {is_first}, {second} {is_second}")
 }
 
-fn ready_threads_are_taken_in_a_cycle(rt: HostRuntime, script: &Script) -> io::Result<()>
+fn ready_threads_are_taken_in_a_cycle(
+    rt: HostRuntime,
+    script: &Script,
+    threads: &Threads<'_>,
+) -> io::Result<()>
     requires fits { IsTrue (fits script.now) }
+    requires script { threads.now.script ≡ script.now }
     requires threads { length script.now.threads ≡ 3 }
     requires apcs { length script.now.apcs ≡ 2 }
 {
-    let threads = Threads::new(rt.alloc(), script)?;
     let (own, other) = (CpuNo(0), CpuNo(1));
     let after = Some(SECOND);
     write_next(rt, "next of 0", threads.next_ready(own, None))?;
@@ -298,28 +324,32 @@ fn write_released(
     )
 }
 
-fn a_release_ends_a_wait(rt: HostRuntime, script: &Script) -> io::Result<()>
+fn a_release_ends_a_wait(
+    rt: HostRuntime,
+    script: &Script,
+    threads: &mut Threads<'_>,
+) -> io::Result<()>
     requires fits { IsTrue (fits script.now) }
+    requires script { threads.old.script ≡ script.now }
     requires threads { length script.now.threads ≡ 3 }
     requires apcs { length script.now.apcs ≡ 2 }
 {
-    let mut threads = Threads::new(rt.alloc(), script)?;
     let t = FIRST;
-    take_up(rt.alloc(), &mut threads, script, t)?;
+    take_up(rt.alloc(), threads, script, t)?;
     write_taken_up(
         rt,
         threads.is_running(t),
         threads.is_ready(t),
         threads.is_leaving(t),
     )?;
-    wait(rt.alloc(), &mut threads, script, t)?;
+    wait(rt.alloc(), threads, script, t)?;
     let ends = [
         threads.ends_by_release(t),
         threads.ends_by_expiry(t, 2),
         threads.ends_by_alert(t, Mode::Kernel),
     ];
     write_waits(rt, threads.is_running(t), ends)?;
-    release(rt.alloc(), &mut threads, t)?;
+    release(rt.alloc(), threads, t)?;
     write_released(rt, threads.is_ready(t), threads.status(t), threads.level(t))
 }
 
@@ -328,15 +358,15 @@ fn write_told(rt: HostRuntime, ready: bool, status: Option<u32>) -> io::Result<(
 }
 
 /// The second thread's release, which is told and not left.
-fn a_release_is_told(rt: HostRuntime, script: &Script) -> io::Result<()>
+fn a_release_is_told(rt: HostRuntime, script: &Script, threads: &mut Threads<'_>) -> io::Result<()>
     requires fits { IsTrue (fits script.now) }
+    requires script { threads.old.script ≡ script.now }
     requires threads { length script.now.threads ≡ 3 }
     requires apcs { length script.now.apcs ≡ 2 }
 {
-    let mut threads = Threads::new(rt.alloc(), script)?;
-    take_up(rt.alloc(), &mut threads, script, SECOND)?;
-    wait(rt.alloc(), &mut threads, script, SECOND)?;
-    tell_release(&mut threads, SECOND);
+    take_up(rt.alloc(), threads, script, SECOND)?;
+    wait(rt.alloc(), threads, script, SECOND)?;
+    tell_release(threads, SECOND);
     write_told(rt, threads.is_ready(SECOND), threads.status(SECOND))
 }
 
@@ -349,15 +379,19 @@ fn write_pick(rt: HostRuntime, what: &str, pick: Option<Pick>) -> io::Result<()>
     println!(rt; "  {what} {pick:?}")
 }
 
-fn apcs_are_inserted_and_removed(rt: HostRuntime, script: &Script) -> io::Result<()>
+fn apcs_are_inserted_and_removed(
+    rt: HostRuntime,
+    script: &Script,
+    threads: &mut Threads<'_>,
+) -> io::Result<()>
     requires fits { IsTrue (fits script.now) }
+    requires script { threads.old.script ≡ script.now }
     requires threads { length script.now.threads ≡ 3 }
     requires apcs { length script.now.apcs ≡ 2 }
 {
-    let mut threads = Threads::new(rt.alloc(), script)?;
     let a = KERNEL_APC;
     write_yes(rt, "ends a wait", threads.ends_by_apc(a))?;
-    insert(rt.alloc(), &mut threads, a, 4)?;
+    insert(rt.alloc(), threads, a, 4)?;
     write_inserted(
         rt,
         threads.is_inserted(a),
@@ -369,7 +403,7 @@ fn apcs_are_inserted_and_removed(rt: HostRuntime, script: &Script) -> io::Result
         "deliverable",
         threads.deliverable(FIRST, FREE, Level::PASSIVE),
     )?;
-    remove(rt.alloc(), &mut threads, a)?;
+    remove(rt.alloc(), threads, a)?;
     let kernel = threads.has_kernel(FIRST);
     write_two(
         rt,
@@ -385,13 +419,17 @@ fn write_wait(rt: HostRuntime, what: &str, reply: Reply) -> io::Result<()> {
     println!(rt; "  {what} {reply:?}")
 }
 
-fn a_user_apc_ends_an_alertable_wait(rt: HostRuntime, script: &Script) -> io::Result<()>
+fn a_user_apc_ends_an_alertable_wait(
+    rt: HostRuntime,
+    script: &Script,
+    threads: &mut Threads<'_>,
+) -> io::Result<()>
     requires fits { IsTrue (fits script.now) }
+    requires script { threads.old.script ≡ script.now }
     requires threads { length script.now.threads ≡ 3 }
     requires apcs { length script.now.apcs ≡ 2 }
 {
-    let mut threads = Threads::new(rt.alloc(), script)?;
-    insert(rt.alloc(), &mut threads, USER_APC, 5)?;
+    insert(rt.alloc(), threads, USER_APC, 5)?;
     write_pick(rt, "first", threads.user_first(FIRST))?;
     write_pick(rt, "due", threads.user_due(FIRST))?;
     let alertable = threads.wait_reply(FIRST, FREE, Level::PASSIVE, Mode::User, true, None);

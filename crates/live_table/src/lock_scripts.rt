@@ -37,35 +37,49 @@ fn add_thread(script: &mut Script, cpu: u8, routine: u16) -> Result<(), AllocErr
     })
 }
 
+/// Adds a routine that takes the second lock, and threads with it on the first processors, so many.
+fn add_contended(alloc: Global, script: &mut Script, threads: u8) -> Result<(), AllocError> {
+    add_routine(script, vec![in alloc; Acquire(K), Note(1), Unlock(K)]?)?;
+    for cpu in 0..threads {
+        add_thread(script, cpu, 0)?;
+    }
+    Ok(())
+}
+
 /// So many processors. Threads on the first ones, so many, take the same lock in turn.
 fn contended(alloc: Global, cpus: u8, threads: u8) -> Result<Script, AllocError> {
     let mut script = plain(alloc, cpus);
-    add_routine(&mut script, vec![in alloc; Acquire(K), Note(1), Unlock(K)]?)?;
-    for cpu in 0..threads {
-        add_thread(&mut script, cpu, 0)?;
-    }
+    add_contended(alloc, &mut script, threads)?;
     Ok(script)
+}
+
+fn add_crossed(alloc: Global, script: &mut Script) -> Result<(), AllocError> {
+    add_routine(script, vec![in alloc; Acquire(J), Acquire(K)]?)?;
+    add_routine(script, vec![in alloc; Acquire(K), Acquire(J)]?)?;
+    add_thread(script, 0, 0)?;
+    add_thread(script, 1, 1)
 }
 
 /// Two processors with a thread on each, which take two locks in opposite orders.
 fn crossed(alloc: Global) -> Result<Script, AllocError> {
     let mut script = plain(alloc, 2);
-    add_routine(&mut script, vec![in alloc; Acquire(J), Acquire(K)]?)?;
-    add_routine(&mut script, vec![in alloc; Acquire(K), Acquire(J)]?)?;
-    add_thread(&mut script, 0, 0)?;
-    add_thread(&mut script, 1, 1)?;
+    add_crossed(alloc, &mut script)?;
     Ok(script)
+}
+
+fn add_all_lanes(alloc: Global, script: &mut Script) -> Result<(), AllocError> {
+    add_routine(script, vec![in alloc; Acquire(J)]?)?;
+    add_thread(script, 0, 0)?;
+    script.dpcs.push(DpcDecl {
+        threaded: false,
+        routine: RoutineNo(0),
+    })
 }
 
 /// Two processors, a DPC, and on processor 0 a thread that takes the first lock.
 fn all_lanes(alloc: Global) -> Result<Script, AllocError> {
     let mut script = plain(alloc, 2);
-    add_routine(&mut script, vec![in alloc; Acquire(J)]?)?;
-    add_thread(&mut script, 0, 0)?;
-    script.dpcs.push(DpcDecl {
-        threaded: false,
-        routine: RoutineNo(0),
-    })?;
+    add_all_lanes(alloc, &mut script)?;
     Ok(script)
 }
 

@@ -27,22 +27,44 @@ mod runs;
 
 use crate::cases::case_of;
 use crate::outcomes::outcome;
+use std::alloc::{AllocError, Global};
 use std::io;
+use std::sync::Wait;
+use std::thread::Threads;
+
+/// The two sides of a line.
+fn sides_of(entry: &str) -> (&str, &str) {
+    entry.split_once('|').unwrap_or(("", ""))
+}
+
+/// What is seen of a case.
+fn seen_of<R: Threads + Wait + Sync>(
+    rt: &R,
+    alloc: Global,
+    head: &str,
+    script: &str,
+) -> Result<&'static str, AllocError> {
+    match case_of(head) {
+        Some(case) => outcome(rt, alloc, &case, script),
+        None => Ok("no case"),
+    }
+}
 
 /// Writes what was seen of a case.
-fn put_seen(rt: &HostRuntime, head: &str, seen: &str) -> io::Result<()> {
+fn put_seen(
+    rt: &HostRuntime,
+    head: &str,
+    seen: Result<&'static str, AllocError>,
+) -> io::Result<()> {
+    let seen = seen?;
     println!(rt; "{head}: {seen}")
 }
 
 fn main(rt: HostRuntime) -> io::Result<()> {
     for line in rt.lines(rt.alloc()) {
         let entry = line?;
-        let (head, script) = entry.as_str().split_once('|').unwrap_or(("", ""));
-        let seen = match case_of(head) {
-            Some(case) => outcome(&rt, rt.alloc(), &case, script)?,
-            None => "no case",
-        };
-        put_seen(&rt, head, seen)?;
+        let (head, script) = sides_of(entry.as_str());
+        put_seen(&rt, head, seen_of(&rt, rt.alloc(), head, script))?;
     }
     Ok(())
 }

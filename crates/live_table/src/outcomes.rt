@@ -56,6 +56,19 @@ fn lines_of(alloc: Global, text: &str) -> Result<Vec<u8>, AllocError> {
     Ok(lines)
 }
 
+/// What is seen of the case on this script, where it fits and its runs are short enough.
+fn script_seen<R: Threads + Wait + Sync>(
+    rt: &R,
+    alloc: Global,
+    case: &Case,
+    script: &Script,
+) -> Result<&'static str, AllocError> {
+    if !script.fits() || u32::from(script.cpus) * case.limit > EVENTS {
+        return Ok("no script");
+    }
+    seen(rt, alloc, case, script)
+}
+
 /// What is seen of the case, whose script has this text.
 fn text_seen<R: Threads + Wait + Sync>(
     rt: &R,
@@ -67,15 +80,21 @@ fn text_seen<R: Threads + Wait + Sync>(
         return Ok("no script");
     }
     match read(alloc, text) {
-        Ok(input) => {
-            if u32::from(input.script.cpus) * case.limit > EVENTS {
-                return Ok("no script");
-            }
-            seen(rt, alloc, case, &input.script)
-        }
+        Ok(input) => script_seen(rt, alloc, case, &input.script),
         Err(ScriptRefusal::Bad { .. }) => Ok("no script"),
         Err(ScriptRefusal::NoMemory) => Err(AllocError),
     }
+}
+
+/// What is seen of the case, whose script has this text with `/` for the end of a line.
+fn lines_seen<R: Threads + Wait + Sync>(
+    rt: &R,
+    alloc: Global,
+    case: &Case,
+    script: &str,
+) -> Result<&'static str, AllocError> {
+    let text = lines_of(alloc, script)?;
+    text_seen(rt, alloc, case, text.as_slice())
 }
 
 /// What is seen of the case, on the script with spin locks of this name.
@@ -85,13 +104,21 @@ fn named_seen<R: Threads + Wait + Sync>(
     case: &Case,
     name: &str,
 ) -> Result<&'static str, AllocError> {
-    let Some(script) = script_of(alloc, name)? else {
-        return Ok("no script");
-    };
-    if !script.fits() || u32::from(script.cpus) * case.limit > EVENTS {
-        return Ok("no script");
+    match script_of(alloc, name)? {
+        Some(script) => script_seen(rt, alloc, case, &script),
+        None => Ok("no script"),
     }
-    seen(rt, alloc, case, &script)
+}
+
+/// What is seen of the case, on the load of this seed.
+fn load_seen<R: Threads + Wait + Sync>(
+    rt: &R,
+    alloc: Global,
+    case: &Case,
+    seed: u32,
+) -> Result<&'static str, AllocError> {
+    let input = load_script(alloc, seed)?;
+    script_seen(rt, alloc, case, &input.script)
 }
 
 /// What is seen of the case, with this script, in which `/` stands for the end of a line; or with
@@ -102,16 +129,9 @@ pub(crate) fn outcome<R: Threads + Wait + Sync>(
     case: &Case,
     script: &str,
 ) -> Result<&'static str, AllocError> {
-    if let Task::Load(seed) = case.task {
-        let input = load_script(alloc, seed)?;
-        if u32::from(input.script.cpus) * case.limit > EVENTS {
-            return Ok("no script");
-        }
-        return seen(rt, alloc, case, &input.script);
+    match (case.task, script.split_once(' ')) {
+        (Task::Load(seed), _) => load_seen(rt, alloc, case, seed),
+        (_, Some(("locks", name))) => named_seen(rt, alloc, case, name),
+        _ => lines_seen(rt, alloc, case, script),
     }
-    if let Some(("locks", name)) = script.split_once(' ') {
-        return named_seen(rt, alloc, case, name);
-    }
-    let text = lines_of(alloc, script)?;
-    text_seen(rt, alloc, case, text.as_slice())
 }

@@ -109,6 +109,22 @@ fn is_first(events: &[Brief]) -> bool {
     0 < first && first < events.len()
 }
 
+/// Whether processor 0's events are the first, and the history is legal.
+fn judged_first(
+    alloc: Global,
+    script: &Script,
+    history: &History,
+) -> Result<&'static str, AllocError>
+    requires script { IsTrue (fits script.now) }
+    requires turns { (1 ≤ history.now.turns) × (history.now.turns ≤ TURNS) }
+    requires all { script.now.cpus * history.now.turns ≤ EVENTS }
+{
+    if !is_first(history.lend().briefs) {
+        return Ok("its events aren't first");
+    }
+    judged(alloc, script, history)
+}
+
 /// The worker of processor 0 works, and no other.
 pub(crate) fn first_worked<R: Wait>(
     rt: &R,
@@ -121,8 +137,5 @@ pub(crate) fn first_worked<R: Wait>(
     requires all { script.now.cpus * limit ≤ EVENTS }
 {
     let history = history(rt, alloc, script, limit, 1)?;
-    if !is_first(history.lend().briefs) {
-        return Ok("its events aren't first");
-    }
-    judged(alloc, script, &history)
+    judged_first(alloc, script, &history)
 }

@@ -58,6 +58,17 @@ fn is_later(events: &[Brief]) -> bool {
     }
 }
 
+/// What is seen where processor 0 waited for processor 1.
+fn follow_seen(flags: &Flags, history: &History) -> &'static str {
+    if !flags.all_seen() {
+        "it didn't see the other"
+    } else if is_later(history.lend().briefs) {
+        "its second event is behind the other's fifth"
+    } else {
+        "its second event is before the other's fifth"
+    }
+}
+
 /// Processor 0 waits at a gate before its second event until processor 1 made its fifth.
 pub(crate) fn followed<R: Threads + Wait + Sync>(
     rt: &R,
@@ -71,14 +82,7 @@ pub(crate) fn followed<R: Threads + Wait + Sync>(
 {
     let flags = Flags::new();
     let history = live(rt, alloc, script, limit, &Following { flags: &flags })?;
-    if !flags.all_seen() {
-        return Ok("it didn't see the other");
-    }
-    Ok(if is_later(history.lend().briefs) {
-        "its second event is behind the other's fifth"
-    } else {
-        "its second event is before the other's fifth"
-    })
+    Ok(follow_seen(&flags, &history))
 }
 
 /// Processor 0 asks processor 1 for something when processor 1 rests, and has nothing more to do in
@@ -121,6 +125,17 @@ fn spins_at_last(history: &History, cpu: CpuNo) -> bool {
     spins
 }
 
+/// What is seen where each had a lock that the other wanted.
+fn cross_seen(flags: &Flags, history: &History) -> &'static str {
+    if !flags.all_seen() {
+        "they didn't meet"
+    } else if spins_at_last(history, CpuNo(0)) && spins_at_last(history, CpuNo(1)) {
+        "both spin still"
+    } else {
+        "one of them got on"
+    }
+}
+
 /// Processors 0 and 1 meet at a gate before their third events, where each has a lock that the
 /// other wants.
 pub(crate) fn crossed<R: Threads + Wait + Sync>(
@@ -135,14 +150,7 @@ pub(crate) fn crossed<R: Threads + Wait + Sync>(
 {
     let flags = Flags::new();
     let history = live(rt, alloc, script, limit, &Crossing { flags: &flags })?;
-    if !flags.all_seen() {
-        return Ok("they didn't meet");
-    }
-    Ok(if spins_at_last(&history, CpuNo(0)) && spins_at_last(&history, CpuNo(1)) {
-        "both spin still"
-    } else {
-        "one of them got on"
-    })
+    Ok(cross_seen(&flags, &history))
 }
 
 /// Whether the histories have the same events, in all their fields.
@@ -160,14 +168,12 @@ fn have_same_events(one: &History, other: &History) -> bool {
     true
 }
 
-/// Whether the turns of a history give it again.
-fn replayed(alloc: Global, script: &Script, history: &History) -> Result<&'static str, AllocError>
-    requires script { IsTrue (fits script.now) }
-    requires turns { (1 ≤ history.now.turns) × (history.now.turns ≤ TURNS) }
-    requires all { script.now.cpus * history.now.turns ≤ EVENTS }
-{
-    let schedule = turns_of(alloc, history)?;
-    match replay(alloc, script, history.turns(), &schedule.list) {
+/// What is seen of a history that the turns of another one gave.
+fn replay_seen(
+    again: Result<History, ScheduleRefusal>,
+    history: &History,
+) -> Result<&'static str, AllocError> {
+    match again {
         Ok(again) => Ok(if have_same_events(&again, history) {
             "legal, and its turns give it again"
         } else {
@@ -176,6 +182,17 @@ fn replayed(alloc: Global, script: &Script, history: &History) -> Result<&'stati
         Err(ScheduleRefusal::Bad { .. }) => Ok("its turns are refused"),
         Err(ScheduleRefusal::NoMemory) => Err(AllocError),
     }
+}
+
+/// Whether the turns of a history give it again.
+fn replayed(alloc: Global, script: &Script, history: &History) -> Result<&'static str, AllocError>
+    requires script { IsTrue (fits script.now) }
+    requires turns { (1 ≤ history.now.turns) × (history.now.turns ≤ TURNS) }
+    requires all { script.now.cpus * history.now.turns ≤ EVENTS }
+{
+    let schedule = turns_of(alloc, history)?;
+    let again = replay(alloc, script, history.turns(), &schedule.list);
+    replay_seen(again, history)
 }
 
 /// Whether a history is legal, and its turns give it again.

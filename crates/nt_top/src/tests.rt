@@ -1,10 +1,13 @@
 //! What no table of cases can make: faults of a source and a sink in memory, words that are no
 //! form, the greatest sizes, and the forms from the words in to the bytes out. The programs
 //! machine_table and texts_table have the worked rows of the parts.
+//!
+//! A function owns at most one value that is dropped, and ends once where it does: a test that owns
+//! several of them over several calls is expensive to prove.
 ghost use Rattle.std.specs.Prelude.{◌<◌};
 
 use crate::{Status, ntrun, plain};
-use nt_outside::{MemorySink, MemorySource, OpenGate};
+use nt_outside::{Gate, MemorySink, MemorySource, OpenGate};
 use nt_script::split_at;
 use nt_words::USAGE;
 use std::alloc::{AllocError, Global};
@@ -39,16 +42,15 @@ fn put_words(given: &mut Vec<String>, alloc: Global, words: &[&str]) -> Result<(
     Ok(())
 }
 
-/// What the program answers and writes over this source and this sink.
-fn program_over<R: AllocGlobal + Threads + Wait + Sync>(
+/// What the program answers and writes over this source and this sink, with this gate.
+fn found_over<G: Gate + Sync, R: AllocGlobal + Threads + Wait + Sync>(
     rt: &R,
-    words: &[&str],
+    given: &[String],
     source: &mut MemorySource,
     sink: &mut MemorySink,
+    gate: &G,
 ) -> Result<Found, AllocError> {
-    let mut given = Vec::new(rt.alloc());
-    put_words(&mut given, rt.alloc(), words)?;
-    let status = ntrun(rt, rt.alloc(), given.as_slice(), source, sink, &OpenGate);
+    let status = ntrun(rt, rt.alloc(), given, source, sink, gate);
     Ok((status, sink.bytes().to_vec(rt.alloc())?))
 }
 
@@ -80,6 +82,43 @@ fn sound_world() -> World<'static> {
     }
 }
 
+/// What the program answers and writes over this source, into this world's sink.
+fn found_from<G: Gate + Sync, R: AllocGlobal + Threads + Wait + Sync>(
+    rt: &R,
+    given: &[String],
+    source: &mut MemorySource,
+    world: &World<'_>,
+    gate: &G,
+) -> Result<Found, AllocError> {
+    let mut sink = sink_of(rt.alloc(), world.room, world.sink_fails)?;
+    found_over(rt, given, source, &mut sink, gate)
+}
+
+/// What the program answers and writes with these words.
+fn found_of<G: Gate + Sync, R: AllocGlobal + Threads + Wait + Sync>(
+    rt: &R,
+    given: &[String],
+    input: &[u8],
+    world: &World<'_>,
+    gate: &G,
+) -> Result<Found, AllocError> {
+    let mut source = source_of(rt.alloc(), input, world.source_fails)?;
+    found_from(rt, given, &mut source, world, gate)
+}
+
+/// What the program answers and writes in this world, with this gate.
+fn program_at<G: Gate + Sync, R: AllocGlobal + Threads + Wait + Sync>(
+    rt: &R,
+    words: &[&str],
+    input: &[u8],
+    world: &World<'_>,
+    gate: &G,
+) -> Result<Found, AllocError> {
+    let mut given = Vec::new(rt.alloc());
+    put_words(&mut given, rt.alloc(), words)?;
+    found_of(rt, given.as_slice(), input, world, gate)
+}
+
 /// What the program answers and writes in this world.
 fn program_in<R: AllocGlobal + Threads + Wait + Sync>(
     rt: &R,
@@ -87,9 +126,7 @@ fn program_in<R: AllocGlobal + Threads + Wait + Sync>(
     input: &[u8],
     world: &World<'_>,
 ) -> Result<Found, AllocError> {
-    let mut source = source_of(rt.alloc(), input, world.source_fails)?;
-    let mut sink = sink_of(rt.alloc(), world.room, world.sink_fails)?;
-    program_over(rt, words, &mut source, &mut sink)
+    program_at(rt, words, input, world, &OpenGate)
 }
 
 /// What the program answers and writes where nothing fails.
@@ -106,6 +143,18 @@ fn is_found(found: &Found, status: Status, text: &[u8]) -> bool {
     found.0 == status && found.1.as_slice() == text
 }
 
+/// Whether the program with these words answers this status and writes these bytes.
+fn gives_bytes<R: AllocGlobal + Threads + Wait + Sync>(
+    rt: &R,
+    words: &[&str],
+    input: &[u8],
+    status: Status,
+    text: &[u8],
+) -> Result<bool, AllocError> {
+    let found = program(rt, words, input)?;
+    Ok(is_found(&found, status, text))
+}
+
 /// Whether the program with these words answers this status and writes this text.
 fn gives<R: AllocGlobal + Threads + Wait + Sync>(
     rt: &R,
@@ -114,8 +163,7 @@ fn gives<R: AllocGlobal + Threads + Wait + Sync>(
     status: Status,
     text: &str,
 ) -> Result<bool, AllocError> {
-    let found = program(rt, words, input)?;
-    Ok(is_found(&found, status, text.as_bytes()))
+    gives_bytes(rt, words, input, status, text.as_bytes())
 }
 
 #[test]
@@ -155,21 +203,19 @@ fn put_rounds(wanted: &mut String) -> Result<(), AllocError> {
     wanted.push_str("done\n")
 }
 
+/// Whether that report is written.
+fn rounds_are_run<R: AllocGlobal + Threads + Wait + Sync>(rt: &R) -> Result<bool, AllocError> {
+    let mut wanted = String::new(rt.alloc());
+    put_rounds(&mut wanted)?;
+    let input = SELF_QUEUING.as_bytes();
+    gives(rt, &["run"], input, Status::Ok, wanted.as_str())
+}
+
 /// After the switch and the thread's insert, the DPC begins, inserts itself and ends, until the
 /// processor has made 10,000 events.
 #[test]
 fn ten_thousand_turns(rt: HostRuntime) -> Result<(), Fail> {
-    let mut wanted = String::new(rt.alloc());
-    put_rounds(&mut wanted)?;
-    assert!(rt;
-        gives(
-            &rt,
-            &["run"],
-            SELF_QUEUING.as_bytes(),
-            Status::Ok,
-            wanted.as_str(),
-        )?
-    );
+    assert!(rt; rounds_are_run(&rt)?);
     Ok(())
 }
 
@@ -328,6 +374,16 @@ fn failing_writes<R: AllocGlobal + Threads + Wait + Sync>(
     Ok(None)
 }
 
+/// Whether so many calls of the form's source, and of its sink, can fail, and each is told.
+fn fails_each<R: AllocGlobal + Threads + Wait + Sync>(
+    rt: &R,
+    form: &Form<'_>,
+    reads: u16,
+    writes: u16,
+) -> Result<bool, AllocError> {
+    Ok(failing_reads(rt, form)? == Some(reads) && failing_writes(rt, form)? == Some(writes))
+}
+
 /// The report of the thread that raises its level and inserts a DPC.
 const RAISED_REPORT: &str =
     "report\n0 p0 main 0 switch main\n1 p0 main 2 call 0 raise 2 -> done\n2 p0 main 2 call 0 queue d -> yes\n3 p0 main 0 call 0 lower 0 -> done\n4 p0 main 2 begin dpc d of 2\n5 p0 main 2 call 4 note 7 -> done\n6 p0 main 0 end 4\n7 p0 main 0 clean 2\n8 p0 main 0 end 0\n9 p0 main 0 gone main\n10 p0 - 0 rest\nschedule 10000\nswitch 0 main\nnext 0\nnext 0\nnext 0\nnext 0\nnext 0\nnext 0\nnext 0\nnext 0\nnext 0\nnext 0\ndone\n";
@@ -341,8 +397,7 @@ fn each_call_of_a_run_fails(rt: HostRuntime) -> Result<(), Fail> {
         status: Status::Ok,
         text: RAISED_REPORT.as_bytes(),
     };
-    assert_eq!(rt; failing_reads(&rt, &form)?, Some(8));
-    assert_eq!(rt; failing_writes(&rt, &form)?, Some(25));
+    assert!(rt; fails_each(&rt, &form, 8, 25)?);
     Ok(())
 }
 
@@ -354,8 +409,7 @@ fn each_call_of_a_refused_script_fails(rt: HostRuntime) -> Result<(), Fail> {
         status: Status::Script,
         text: b"script line 1: 10 TooMany cpus\n",
     };
-    assert_eq!(rt; failing_reads(&rt, &form)?, Some(2));
-    assert_eq!(rt; failing_writes(&rt, &form)?, Some(2));
+    assert!(rt; fails_each(&rt, &form, 2, 2)?);
     Ok(())
 }
 
@@ -372,8 +426,7 @@ fn each_call_of_a_replay_fails(rt: HostRuntime) -> Result<(), Fail> {
         status: Status::Ok,
         text: ONE_TURN_REPORT.as_bytes(),
     };
-    assert_eq!(rt; failing_reads(&rt, &form)?, Some(4));
-    assert_eq!(rt; failing_writes(&rt, &form)?, Some(3));
+    assert!(rt; fails_each(&rt, &form, 4, 3)?);
     Ok(())
 }
 
@@ -385,8 +438,7 @@ fn each_call_of_a_check_fails(rt: HostRuntime) -> Result<(), Fail> {
         status: Status::Ok,
         text: b"legal\n",
     };
-    assert_eq!(rt; failing_reads(&rt, &form)?, Some(6));
-    assert_eq!(rt; failing_writes(&rt, &form)?, Some(1));
+    assert!(rt; fails_each(&rt, &form, 6, 1)?);
     Ok(())
 }
 
@@ -398,8 +450,7 @@ fn each_call_of_a_load_fails(rt: HostRuntime) -> Result<(), Fail> {
         status: Status::Ok,
         text: b"events 7823\ncalls 4096\nrefused 493\nbegins 1100\ncut 0\nwaits 0\n",
     };
-    assert_eq!(rt; failing_reads(&rt, &form)?, Some(0));
-    assert_eq!(rt; failing_writes(&rt, &form)?, Some(4));
+    assert!(rt; fails_each(&rt, &form, 0, 4)?);
     Ok(())
 }
 
@@ -416,25 +467,69 @@ fn is_no_form<R: AllocGlobal + Threads + Wait + Sync>(
     Ok(is_found(&found, Status::Usage, USAGE.as_bytes()))
 }
 
+/// Words that are no form.
+const NO_FORMS: [&[&str]; 8] = [
+    &[],
+    &["live", "--turns", "0"],
+    &["live", "--seed", "1"],
+    &["run", "live"],
+    &["--help"],
+    &["run", "run"],
+    &["run", "--turns", "0"],
+    &["replay", "--turns", "5"],
+];
+
+fn are_no_forms<R: AllocGlobal + Threads + Wait + Sync>(rt: &R) -> Result<bool, AllocError> {
+    for words in NO_FORMS {
+        if !is_no_form(rt, words)? {
+            return Ok(false);
+        }
+    }
+    Ok(true)
+}
+
 #[test]
 fn other_words_are_no_form(rt: HostRuntime) -> Result<(), Fail> {
-    assert!(rt; is_no_form(&rt, &[])?);
-    assert!(rt; is_no_form(&rt, &["live", "--turns", "0"])?);
-    assert!(rt; is_no_form(&rt, &["live", "--seed", "1"])?);
-    assert!(rt; is_no_form(&rt, &["run", "live"])?);
-    assert!(rt; is_no_form(&rt, &["--help"])?);
-    assert!(rt; is_no_form(&rt, &["run", "run"])?);
-    assert!(rt; is_no_form(&rt, &["run", "--turns", "0"])?);
-    assert!(rt; is_no_form(&rt, &["replay", "--turns", "5"])?);
+    assert!(rt; are_no_forms(&rt)?);
     Ok(())
 }
 
+/// What `plain` answers over this source, and what it writes into this sink.
+fn plain_over(
+    alloc: Global,
+    words: &[String],
+    source: &mut MemorySource,
+    sink: &mut MemorySink,
+) -> Result<Found, AllocError> {
+    let status = plain(alloc, words, source, sink);
+    Ok((status, sink.bytes().to_vec(alloc)?))
+}
+
 /// What `plain` answers over this source, and what it writes.
+fn plain_from(
+    alloc: Global,
+    words: &[String],
+    source: &mut MemorySource,
+) -> Result<Found, AllocError> {
+    let mut sink = sink_of(alloc, 100, &[])?;
+    plain_over(alloc, words, source, &mut sink)
+}
+
+/// What `plain` answers to a run of this source, and what it writes.
 fn plainly(alloc: Global, source: &mut MemorySource) -> Result<Found, AllocError> {
     let words = [String::from_str(alloc, "run")?];
-    let mut sink = sink_of(alloc, 100, &[])?;
-    let status = plain(alloc, words.as_slice(), source, &mut sink);
-    Ok((status, sink.bytes().to_vec(alloc)?))
+    plain_from(alloc, words.as_slice(), source)
+}
+
+/// Whether what stands in this source is refused so.
+fn is_refused(
+    alloc: Global,
+    source: &mut MemorySource,
+    status: Status,
+    text: &str,
+) -> Result<bool, AllocError> {
+    let found = plainly(alloc, source)?;
+    Ok(is_found(&found, status, text.as_bytes()))
 }
 
 /// Whether a line of so many bytes is refused so.
@@ -446,8 +541,7 @@ fn line_is_refused(
 ) -> Result<bool, AllocError> {
     let bytes = vec![in alloc; b'a'; length]?;
     let mut source = MemorySource::new(bytes, 1 << 20, Vec::new(alloc));
-    let found = plainly(alloc, &mut source)?;
-    Ok(is_found(&found, status, text.as_bytes()))
+    is_refused(alloc, &mut source, status, text)
 }
 
 /// One line of as many bytes as an input may have.
@@ -499,115 +593,89 @@ fn replay_gives<R: AllocGlobal + Threads + Wait + Sync>(
     gives(rt, &["replay"], input.as_bytes(), status, text)
 }
 
+/// Whether the report of its schedule is written.
+fn idle_target_is_replayed<R: AllocGlobal + Threads + Wait + Sync>(
+    rt: &R,
+) -> Result<bool, AllocError> {
+    let mut wanted = String::new(rt.alloc());
+    put_lines(&mut wanted, &[IDLE_TARGET_EVENTS, IDLE_TARGET_SCHEDULE])?;
+    replay_gives(rt, IDLE_TARGET_SCHEDULE, Status::Ok, wanted.as_str())
+}
+
 /// A schedule is replayed: its report is written, with status 0.
 #[test]
 fn a_schedule_is_replayed(rt: HostRuntime) -> Result<(), Fail> {
-    let mut wanted = String::new(rt.alloc());
-    put_lines(&mut wanted, &[IDLE_TARGET_EVENTS, IDLE_TARGET_SCHEDULE])?;
-    assert!(rt; replay_gives(&rt, IDLE_TARGET_SCHEDULE, Status::Ok, wanted.as_str())?);
+    assert!(rt; idle_target_is_replayed(&rt)?);
     Ok(())
 }
 
-/// Whether the turns of this schedule make no settled run; the line tells the place of the turn and
-/// why it is refused.
-fn turns_are_no_run<R: AllocGlobal + Threads + Wait + Sync>(
+/// Whether `replay` of that script with each schedule behind it answers this status and writes the
+/// line beside it.
+fn are_refused<R: AllocGlobal + Threads + Wait + Sync>(
     rt: &R,
-    schedule: &str,
-    line: &str,
+    schedules: &[(&str, &str)],
+    status: Status,
 ) -> Result<bool, AllocError> {
-    replay_gives(rt, schedule, Status::Schedule, line)
+    for (schedule, line) in schedules {
+        if !replay_gives(rt, schedule, status, line)? {
+            return Ok(false);
+        }
+    }
+    Ok(true)
 }
+
+/// Schedules whose turns make no settled run; the line tells the place of the turn and why it is
+/// refused.
+const NO_RUNS: [(&str, &str); 6] = [
+    (
+        "schedule 10000\nswitch 0 a\nnext 1\nnext 0\nnext 0\nlook 1 2=18446744073709551615\ndone\n",
+        "schedule turn 4: 3 BadLook\n",
+    ),
+    (
+        "schedule 10000\nswitch 0 a\nnext 1\nnext 0\ndone\n",
+        "schedule turn 3: 5 Unfinished\n",
+    ),
+    ("schedule 10000\ndone\n", "schedule turn 0: 5 Unfinished\n"),
+    (
+        "schedule 1\nswitch 0 a\nnext 1\nnext 0\ndone\n",
+        "schedule turn 2: 2 NothingToDo\n",
+    ),
+    (
+        "schedule 10000\nnext 2\ndone\n",
+        "schedule turn 0: 1 NoSuchCpu\n",
+    ),
+    (
+        "schedule 10000\nswitch 1 a\nnext 2\ndone\n",
+        "schedule turn 0: 4 BadChoice\n",
+    ),
+];
 
 #[test]
 fn turns_are_refused(rt: HostRuntime) -> Result<(), Fail> {
-    assert!(rt;
-        turns_are_no_run(
-            &rt,
-            "schedule 10000\nswitch 0 a\nnext 1\nnext 0\nnext 0\nlook 1 2=18446744073709551615\ndone\n",
-            "schedule turn 4: 3 BadLook\n",
-        )?
-    );
-    assert!(rt;
-        turns_are_no_run(
-            &rt,
-            "schedule 10000\nswitch 0 a\nnext 1\nnext 0\ndone\n",
-            "schedule turn 3: 5 Unfinished\n",
-        )?
-    );
-    assert!(rt;
-        turns_are_no_run(
-            &rt,
-            "schedule 10000\ndone\n",
-            "schedule turn 0: 5 Unfinished\n",
-        )?
-    );
-    assert!(rt;
-        turns_are_no_run(
-            &rt,
-            "schedule 1\nswitch 0 a\nnext 1\nnext 0\ndone\n",
-            "schedule turn 2: 2 NothingToDo\n",
-        )?
-    );
-    assert!(rt;
-        turns_are_no_run(
-            &rt,
-            "schedule 10000\nnext 2\ndone\n",
-            "schedule turn 0: 1 NoSuchCpu\n",
-        )?
-    );
-    assert!(rt;
-        turns_are_no_run(
-            &rt,
-            "schedule 10000\nswitch 1 a\nnext 2\ndone\n",
-            "schedule turn 0: 4 BadChoice\n",
-        )?
-    );
+    assert!(rt; are_refused(&rt, &NO_RUNS, Status::Schedule)?);
     Ok(())
 }
 
-/// Whether a line of the script with this schedule behind it is refused so, numbered in the whole
-/// input.
-fn line_is_bad<R: AllocGlobal + Threads + Wait + Sync>(
-    rt: &R,
-    schedule: &str,
-    line: &str,
-) -> Result<bool, AllocError> {
-    replay_gives(rt, schedule, Status::Script, line)
-}
+/// Schedules with a bad line, which is numbered in the whole input.
+const BAD_LINES: [(&str, &str); 6] = [
+    ("schedule 0\ndone\n", "script line 10: 5 BadNumber\n"),
+    (
+        "schedule 10000\nlook 1 2=0\ndone\n",
+        "script line 11: 5 BadNumber\n",
+    ),
+    (
+        "schedule 10000\nlook 1 12=4\ndone\n",
+        "script line 11: 5 BadNumber\n",
+    ),
+    ("schedule 10000\nnext 0\n", "script line 12: 11 NoEnd\n"),
+    ("", "script line 10: 11 NoEnd\n"),
+    ("isr 0 5 q\nschedule 0\n", "script line 10: 2 UnknownWord\n"),
+];
 
 /// Lines of the script are refused first, then lines of the schedule.
 #[test]
 fn schedules_are_refused(rt: HostRuntime) -> Result<(), Fail> {
-    assert!(rt; line_is_bad(&rt, "schedule 0\ndone\n", "script line 10: 5 BadNumber\n")?);
-    assert!(rt;
-        line_is_bad(
-            &rt,
-            "schedule 10000\nlook 1 2=0\ndone\n",
-            "script line 11: 5 BadNumber\n",
-        )?
-    );
-    assert!(rt;
-        line_is_bad(
-            &rt,
-            "schedule 10000\nlook 1 12=4\ndone\n",
-            "script line 11: 5 BadNumber\n",
-        )?
-    );
-    assert!(rt;
-        line_is_bad(
-            &rt,
-            "schedule 10000\nnext 0\n",
-            "script line 12: 11 NoEnd\n",
-        )?
-    );
-    assert!(rt; line_is_bad(&rt, "", "script line 10: 11 NoEnd\n")?);
-    assert!(rt;
-        line_is_bad(
-            &rt,
-            "isr 0 5 q\nschedule 0\n",
-            "script line 10: 2 UnknownWord\n",
-        )?
-    );
+    assert!(rt; are_refused(&rt, &BAD_LINES, Status::Script)?);
     Ok(())
 }
 
@@ -644,17 +712,29 @@ fn is_replayed<R: AllocGlobal + Threads + Wait + Sync>(
 ) -> Result<bool, AllocError> {
     let mut input = script.as_bytes().to_vec(rt.alloc())?;
     put_schedule(&mut input, report)?;
-    let again = program(rt, &["replay"], input.as_slice())?;
-    Ok(is_found(&again, Status::Ok, report))
+    gives_bytes(rt, &["replay"], input.as_slice(), Status::Ok, report)
+}
+
+/// Whether a report was found, whose schedule part is replayed to the same bytes.
+fn is_found_again<R: AllocGlobal + Threads + Wait + Sync>(
+    rt: &R,
+    script: &str,
+    found: &Found,
+) -> Result<bool, AllocError> {
+    Ok(found.0 == Status::Ok && is_replayed(rt, script, found.1.as_slice())?)
+}
+
+/// Whether a run's report is replayed.
+fn run_is_replayed<R: AllocGlobal + Threads + Wait + Sync>(rt: &R) -> Result<bool, AllocError> {
+    let words = ["run", "--turns", "500"];
+    let ran = program(rt, &words, SELF_QUEUING.as_bytes())?;
+    is_found_again(rt, SELF_QUEUING, &ran)
 }
 
 /// The schedule part of a report, behind its script, is replayed to the same bytes.
 #[test]
 fn a_report_is_replayed(rt: HostRuntime) -> Result<(), Fail> {
-    let words = ["run", "--turns", "500"];
-    let ran = program(&rt, &words, SELF_QUEUING.as_bytes())?;
-    assert_eq!(rt; ran.0, Status::Ok);
-    assert!(rt; is_replayed(&rt, SELF_QUEUING, ran.1.as_slice())?);
+    assert!(rt; run_is_replayed(&rt)?);
     Ok(())
 }
 
@@ -745,15 +825,28 @@ fn a_load_is_summed_up(rt: HostRuntime) -> Result<(), Fail> {
     Ok(())
 }
 
+const NUMBERS: [(Status, u8); 9] = [
+    (Status::Ok, 0),
+    (Status::Usage, 1),
+    (Status::Script, 2),
+    (Status::Schedule, 3),
+    (Status::Read, 4),
+    (Status::Write, 5),
+    (Status::Memory, 6),
+    (Status::TooLong, 7),
+    (Status::Illegal, 8),
+];
+
+fn are_numbered() -> bool {
+    for (status, number) in NUMBERS {
+        if status.number() != number {
+            return false;
+        }
+    }
+    true
+}
+
 #[test]
 fn statuses_have_their_numbers(rt: HostRuntime) {
-    assert_eq!(rt; Status::Ok.number(), 0);
-    assert_eq!(rt; Status::Usage.number(), 1);
-    assert_eq!(rt; Status::Script.number(), 2);
-    assert_eq!(rt; Status::Schedule.number(), 3);
-    assert_eq!(rt; Status::Read.number(), 4);
-    assert_eq!(rt; Status::Write.number(), 5);
-    assert_eq!(rt; Status::Memory.number(), 6);
-    assert_eq!(rt; Status::TooLong.number(), 7);
-    assert_eq!(rt; Status::Illegal.number(), 8);
+    assert!(rt; are_numbered());
 }

@@ -13,10 +13,22 @@ const FREE: Regions = Regions {
 /// Writes the answers of a case.
 pub fn answer(rt: HostRuntime, case: &str) -> io::Result<()> {
     match case {
-        "special ones stand before normal ones" => special_before_normal(rt),
-        "an object is inserted once" => once_in(rt),
-        "closed doors take no more and user apcs are flushed" => closed_doors(rt),
         "regions and levels hold back" => held_back(rt),
+        _ => answer_of_queues(rt, case),
+    }
+}
+
+/// Writes the answers of a case that begins with empty queues.
+fn answer_of_queues(rt: HostRuntime, case: &str) -> io::Result<()> {
+    let mut queues = ApcQueues::new(rt.alloc(), 3)?;
+    make_calls(rt, case, &mut queues)
+}
+
+fn make_calls(rt: HostRuntime, case: &str, queues: &mut ApcQueues) -> io::Result<()> {
+    match case {
+        "special ones stand before normal ones" => special_before_normal(rt, queues),
+        "an object is inserted once" => once_in(rt, queues),
+        "closed doors take no more and user apcs are flushed" => closed_doors(rt, queues),
         _ => println!(rt; "  no such case"),
     }
 }
@@ -39,8 +51,7 @@ fn write_deliverable(rt: HostRuntime, queues: &ApcQueues) -> io::Result<()> {
     write_pick(rt, "deliverable", queues.deliverable(FREE, Level::PASSIVE))
 }
 
-fn special_before_normal(rt: HostRuntime) -> io::Result<()> {
-    let mut queues = ApcQueues::new(rt.alloc(), 3)?;
+fn special_before_normal(rt: HostRuntime, queues: &mut ApcQueues) -> io::Result<()> {
     write_yes(rt, "has kernel", queues.has_kernel())?;
     let normal = queues.insert(ApcNo(0), ApcKind::Normal, 4);
     write_yes(rt, "insert 0", normal)?;
@@ -49,17 +60,16 @@ fn special_before_normal(rt: HostRuntime) -> io::Result<()> {
     let second = queues.insert(ApcNo(2), ApcKind::Special, 9);
     write_yes(rt, "insert 2", second)?;
     write_yes(rt, "has kernel", queues.has_kernel())?;
-    write_deliverable(rt, &queues)?;
+    write_deliverable(rt, queues)?;
     queues.take(pick(1, ApcKind::Special, 7));
-    write_deliverable(rt, &queues)?;
+    write_deliverable(rt, queues)?;
     queues.take(pick(2, ApcKind::Special, 9));
-    write_deliverable(rt, &queues)?;
+    write_deliverable(rt, queues)?;
     queues.take(pick(0, ApcKind::Normal, 4));
-    write_deliverable(rt, &queues)
+    write_deliverable(rt, queues)
 }
 
-fn once_in(rt: HostRuntime) -> io::Result<()> {
-    let mut queues = ApcQueues::new(rt.alloc(), 1)?;
+fn once_in(rt: HostRuntime, queues: &mut ApcQueues) -> io::Result<()> {
     write_yes(rt, "open", queues.open_for(ApcNo(5)))?;
     write_yes(rt, "insert", queues.insert(ApcNo(5), ApcKind::User, 1))?;
     write_yes(rt, "open", queues.open_for(ApcNo(5)))?;
@@ -71,15 +81,14 @@ fn once_in(rt: HostRuntime) -> io::Result<()> {
     write_pick(rt, "first", queues.user_first())
 }
 
-fn closed_doors(rt: HostRuntime) -> io::Result<()> {
-    let mut queues = ApcQueues::new(rt.alloc(), 3)?;
+fn closed_doors(rt: HostRuntime, queues: &mut ApcQueues) -> io::Result<()> {
     write_yes(rt, "insert 0", queues.insert(ApcNo(0), ApcKind::User, 4))?;
     write_yes(rt, "insert 1", queues.insert(ApcNo(1), ApcKind::User, 5))?;
     queues.close_doors();
     write_yes(rt, "insert 2", queues.insert(ApcNo(2), ApcKind::User, 8))?;
-    write_flush(rt, &mut queues)?;
-    write_flush(rt, &mut queues)?;
-    write_flush(rt, &mut queues)
+    write_flush(rt, queues)?;
+    write_flush(rt, queues)?;
+    write_flush(rt, queues)
 }
 
 /// Queues with one APC of this kind.

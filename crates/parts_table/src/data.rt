@@ -45,6 +45,11 @@ fn script(alloc: Global, commands: Vec<Command>) -> Result<Script, AllocError> {
     let routine = Routine {
         commands: Items::from_vec(commands),
     };
+    script_of(alloc, vec![in alloc; routine]?)
+}
+
+/// The script of these routines, of which there is one.
+fn script_of(alloc: Global, routines: Vec<Routine>) -> Result<Script, AllocError> {
     let mut made = Script {
         cpus: 2,
         depth: Some(256),
@@ -54,7 +59,7 @@ fn script(alloc: Global, commands: Vec<Command>) -> Result<Script, AllocError> {
         timers: Items::new(alloc),
         threads: Items::new(alloc),
         apcs: Items::new(alloc),
-        routines: Items::from_vec(vec![in alloc; routine]?),
+        routines: Items::from_vec(routines),
         locks: 1,
     };
     declare(&mut made)?;
@@ -217,8 +222,16 @@ fn write_next(rt: HostRuntime, at: &str, command: Option<Command>) -> io::Result
 }
 
 fn next_commands(rt: HostRuntime) -> io::Result<()> {
-    let commands = vec![in rt.alloc(); Command::Note(1), Command::Note(2)]?;
-    let made = script(rt.alloc(), commands)?;
+    let made = two_notes(rt.alloc())?;
+    write_commands(rt, &made)
+}
+
+/// The script of a routine with two commands.
+fn two_notes(alloc: Global) -> Result<Script, AllocError> {
+    script(alloc, vec![in alloc; Command::Note(1), Command::Note(2)]?)
+}
+
+fn write_commands(rt: HostRuntime, made: &Script) -> io::Result<()> {
     let base = Body::Base(ThreadNo(0));
     write_next(rt, "at 0", made.command_at(CpuNo(1), &base, false, 0))?;
     write_next(rt, "at 1", made.command_at(CpuNo(1), &base, false, 1))?;
@@ -254,11 +267,19 @@ fn two_items(items: &mut Items<u32>) -> Result<(), AllocError> {
 
 fn items(rt: HostRuntime) -> io::Result<()> {
     let mut items = Items::new(rt.alloc());
-    write_yes(rt, "empty", items.is_empty())?;
-    two_items(&mut items)?;
-    write_items(rt, items.as_slice())?;
+    fill(rt, &mut items)?;
     let all = items.into_vec();
-    println!(rt; "  {}", Items::from_vec(all).len())
+    write_count(rt, Items::from_vec(all).len())
+}
+
+fn fill(rt: HostRuntime, items: &mut Items<u32>) -> io::Result<()> {
+    write_yes(rt, "empty", items.is_empty())?;
+    two_items(items)?;
+    write_items(rt, items.as_slice())
+}
+
+fn write_count(rt: HostRuntime, count: usize) -> io::Result<()> {
+    println!(rt; "  {count}")
 }
 
 fn write_reply(rt: HostRuntime, reply: Reply) -> io::Result<()> {

@@ -16,12 +16,32 @@ const OWN: CpuNo = CpuNo(0);
 pub fn answer(rt: HostRuntime, case: &str) -> io::Result<()> {
     match case {
         "an ordinary insert asks by the table" => ordinary_inserts_ask(rt),
-        "high inserts come first and the newest of them" => high_inserts_come_first(rt),
-        "only the insert above the depth limit asks" => a_deep_insert_asks(rt),
-        "an object is inserted once and removed once" => once_in_and_once_out(rt),
-        "a threaded dpc stands in its own part" => a_threaded_insert(rt),
-        "a target decides the queue and a rest the idle mark" => targets_and_rests(rt),
-        "the first is taken until there is none" => firsts_are_taken(rt),
+        "only the insert above the depth limit asks" => answer_of_depth(rt),
+        _ => answer_of_a_queue(rt, case),
+    }
+}
+
+/// Writes the answers of the case of a depth limit.
+fn answer_of_depth(rt: HostRuntime) -> io::Result<()> {
+    let mut queue = DpcQueue::new(rt.alloc(), OWN, 4, 2)?;
+    a_deep_insert_asks(rt, &mut queue)
+}
+
+/// Writes the answers of a case that begins with an empty queue.
+fn answer_of_a_queue(rt: HostRuntime, case: &str) -> io::Result<()> {
+    let mut queue = DpcQueue::new(rt.alloc(), OWN, 4, 4)?;
+    make_calls(rt, case, &mut queue)
+}
+
+fn make_calls(rt: HostRuntime, case: &str, queue: &mut DpcQueue) -> io::Result<()>
+    requires { queue.old ≡ new_queue (cpu 0) 4 4 }
+{
+    match case {
+        "high inserts come first and the newest of them" => high_inserts_come_first(rt, queue),
+        "an object is inserted once and removed once" => once_in_and_once_out(rt, queue),
+        "a threaded dpc stands in its own part" => a_threaded_insert(rt, queue),
+        "a target decides the queue and a rest the idle mark" => targets_and_rests(rt, queue),
+        "the first is taken until there is none" => firsts_are_taken(rt, queue),
         _ => println!(rt; "  no such case"),
     }
 }
@@ -88,8 +108,9 @@ fn write_insert(rt: HostRuntime, call: &str, inserted: Inserted) -> io::Result<(
     println!(rt; "  {call} {inserted:?}")
 }
 
-fn high_inserts_come_first(rt: HostRuntime) -> io::Result<()> {
-    let mut queue = DpcQueue::new(rt.alloc(), OWN, 4, 4)?;
+fn high_inserts_come_first(rt: HostRuntime, queue: &mut DpcQueue) -> io::Result<()>
+    requires { queue.old ≡ new_queue (cpu 0) 4 4 }
+{
     let mut a = DpcObject::new(DpcNo(0), false);
     let mut b = DpcObject::new(DpcNo(1), false);
     let mut c = DpcObject::new(DpcNo(2), false);
@@ -112,8 +133,9 @@ fn high_inserts_come_first(rt: HostRuntime) -> io::Result<()> {
     write_first(rt, "first", queue.first(Part::Ordinary))
 }
 
-fn a_deep_insert_asks(rt: HostRuntime) -> io::Result<()> {
-    let mut queue = DpcQueue::new(rt.alloc(), OWN, 3, 2)?;
+fn a_deep_insert_asks(rt: HostRuntime, queue: &mut DpcQueue) -> io::Result<()>
+    requires { queue.old ≡ new_queue (cpu 0) 4 2 }
+{
     let mut first = DpcObject::new(DpcNo(0), false);
     let mut second = DpcObject::new(DpcNo(1), false);
     let mut third = DpcObject::new(DpcNo(2), false);
@@ -131,8 +153,9 @@ fn write_standing(rt: HostRuntime, standing: Option<CpuNo>, held: bool) -> io::R
     println!(rt; "  standing {standing:?}, held {held}")
 }
 
-fn once_in_and_once_out(rt: HostRuntime) -> io::Result<()> {
-    let mut queue = DpcQueue::new(rt.alloc(), OWN, 1, 4)?;
+fn once_in_and_once_out(rt: HostRuntime, queue: &mut DpcQueue) -> io::Result<()>
+    requires { queue.old ≡ new_queue (cpu 0) 4 4 }
+{
     let mut d = DpcObject::new(DpcNo(0), false);
     write_insert(rt, "insert", queue.insert(&mut d, OWN, 2))?;
     write_standing(rt, d.standing(), queue.holds(DpcNo(0)))?;
@@ -143,8 +166,9 @@ fn once_in_and_once_out(rt: HostRuntime) -> io::Result<()> {
     write_yes(rt, "remove", queue.remove(&mut d))
 }
 
-fn a_threaded_insert(rt: HostRuntime) -> io::Result<()> {
-    let mut queue = DpcQueue::new(rt.alloc(), OWN, 1, 4)?;
+fn a_threaded_insert(rt: HostRuntime, queue: &mut DpcQueue) -> io::Result<()>
+    requires { queue.old ≡ new_queue (cpu 0) 4 4 }
+{
     let mut w = DpcObject::new(DpcNo(0), true);
     write_insert(rt, "insert", queue.insert(&mut w, OWN, 2))?;
     write_first(rt, "first ordinary", queue.first(Part::Ordinary))?;
@@ -162,14 +186,15 @@ fn write_idle(rt: HostRuntime, idle: bool, after: &str) -> io::Result<()> {
     println!(rt; "  idle {idle}{after}")
 }
 
-fn targets_and_rests(rt: HostRuntime) -> io::Result<()> {
+fn targets_and_rests(rt: HostRuntime, queue: &mut DpcQueue) -> io::Result<()>
+    requires { queue.old ≡ new_queue (cpu 0) 4 4 }
+{
     let mut d = DpcObject::new(DpcNo(0), false);
     write_target(rt, "no target", d.queue_for(CpuNo(3)))?;
     d.set_target(Some(CpuNo(1)));
     write_target(rt, "target 1", d.queue_for(CpuNo(3)))?;
     d.set_target(None);
     write_target(rt, "no target", d.queue_for(CpuNo(3)))?;
-    let mut queue = DpcQueue::new(rt.alloc(), OWN, 0, 4)?;
     write_idle(rt, queue.is_idle(), "")?;
     queue.rest();
     write_idle(rt, queue.is_idle(), " after a rest")?;
@@ -177,8 +202,9 @@ fn targets_and_rests(rt: HostRuntime) -> io::Result<()> {
     write_idle(rt, queue.is_idle(), " after a switch")
 }
 
-fn firsts_are_taken(rt: HostRuntime) -> io::Result<()> {
-    let mut queue = DpcQueue::new(rt.alloc(), OWN, 2, 4)?;
+fn firsts_are_taken(rt: HostRuntime, queue: &mut DpcQueue) -> io::Result<()>
+    requires { queue.old ≡ new_queue (cpu 0) 4 4 }
+{
     let mut a = DpcObject::new(DpcNo(0), false);
     let mut b = DpcObject::new(DpcNo(1), false);
     b.set_importance(Importance::High);

@@ -1,5 +1,7 @@
 //! The frames of a processor: what calls answer, and what they leave.
+ghost use Rattle.std.specs.Prelude.{◌≡◌};
 ghost use Rattle.nt_frame.specs.Calls.{MayCallAll};
+ghost use Rattle.nt_frame.specs.Changes.{no_frames};
 
 use nt_event::{
     Again, ApcKind, ApcNo, Body, Command, CpuNo, DpcNo, LockNo, Mode, Region, Regions, Stand,
@@ -15,13 +17,38 @@ const T1: ThreadNo = ThreadNo(1);
 
 /// Writes the answers of a case.
 pub fn answer(rt: HostRuntime, case: &str) -> io::Result<()> {
+    let mut frames = Frames::new(rt.alloc(), CpuNo(0), 2)?;
+    make_calls(rt, case, &mut frames)?;
+    write_left(rt, case, &frames)
+}
+
+/// Makes the calls of a case on a processor with two threads.
+fn make_calls(rt: HostRuntime, case: &str, frames: &mut Frames) -> io::Result<()>
+    requires { frames.old ≡ no_frames 2 }
+{
     match case {
-        "no frame at the start" => no_frame_at_the_start(rt),
-        "levels and regions of a thread" => levels_and_regions_of_a_thread(rt),
-        "routines over a thread" => routines_over_a_thread(rt),
-        "threads come and go" => threads_come_and_go(rt),
-        "locks of a thread" => locks_of_a_thread(rt),
+        "no frame at the start" => Ok(()),
+        "levels and regions of a thread" => levels_and_regions_of_a_thread(rt, frames),
+        "routines over a thread" => routines_over_a_thread(rt, frames),
+        "threads come and go" => threads_come_and_go(rt, frames),
+        "locks of a thread" => locks_of_a_thread(rt, frames),
         _ => println!(rt; "  no such case"),
+    }
+}
+
+/// Writes what the calls of a case leave.
+fn write_left(rt: HostRuntime, case: &str, frames: &Frames) -> io::Result<()> {
+    match case {
+        "no frame at the start" | "levels and regions of a thread" => {
+            write_questions(rt, frames)?;
+            write_refusals(rt, frames)
+        }
+        "routines over a thread" | "threads come and go" => write_questions(rt, frames),
+        "locks of a thread" => {
+            write_locks(rt, frames.last_held(), frames.spinning())?;
+            write_levels(rt, frames.level(), frames.level_after())
+        }
+        _ => Ok(()),
     }
 }
 
@@ -116,14 +143,9 @@ fn write_refusals(rt: HostRuntime, frames: &Frames) -> io::Result<()> {
     write_refusal(rt, frames, Command::LeaveGuard)
 }
 
-fn no_frame_at_the_start(rt: HostRuntime) -> io::Result<()> {
-    let frames = Frames::new(rt.alloc(), CpuNo(0), 2)?;
-    write_questions(rt, &frames)?;
-    write_refusals(rt, &frames)
-}
-
-fn levels_and_regions_of_a_thread(rt: HostRuntime) -> io::Result<()> {
-    let mut frames = Frames::new(rt.alloc(), CpuNo(0), 2)?;
+fn levels_and_regions_of_a_thread(rt: HostRuntime, frames: &mut Frames) -> io::Result<()>
+    requires { frames.old ≡ no_frames 2 }
+{
     let calls = [
         FrameCall::SwitchTo(T1),
         FrameCall::Begin(Body::Base(T1), 1),
@@ -137,13 +159,12 @@ fn levels_and_regions_of_a_thread(rt: HostRuntime) -> io::Result<()> {
         FrameCall::Lower(Level::CLOCK),
         FrameCall::Enter(Region::Crit),
     ];
-    write_calls(rt, &mut frames, &calls)?;
-    write_questions(rt, &frames)?;
-    write_refusals(rt, &frames)
+    write_calls(rt, frames, &calls)
 }
 
-fn routines_over_a_thread(rt: HostRuntime) -> io::Result<()> {
-    let mut frames = Frames::new(rt.alloc(), CpuNo(0), 2)?;
+fn routines_over_a_thread(rt: HostRuntime, frames: &mut Frames) -> io::Result<()>
+    requires { frames.old ≡ no_frames 2 }
+{
     let calls = [
         FrameCall::SwitchTo(T1),
         FrameCall::Begin(Body::Base(T1), 1),
@@ -161,12 +182,12 @@ fn routines_over_a_thread(rt: HostRuntime) -> io::Result<()> {
         FrameCall::Finish,
         FrameCall::Finish,
     ];
-    write_calls(rt, &mut frames, &calls)?;
-    write_questions(rt, &frames)
+    write_calls(rt, frames, &calls)
 }
 
-fn threads_come_and_go(rt: HostRuntime) -> io::Result<()> {
-    let mut frames = Frames::new(rt.alloc(), CpuNo(0), 2)?;
+fn threads_come_and_go(rt: HostRuntime, frames: &mut Frames) -> io::Result<()>
+    requires { frames.old ≡ no_frames 2 }
+{
     let delay = Again {
         mode: Mode::User,
         alertable: true,
@@ -185,12 +206,12 @@ fn threads_come_and_go(rt: HostRuntime) -> io::Result<()> {
         FrameCall::Gone,
         FrameCall::SwitchTo(T1),
     ];
-    write_calls(rt, &mut frames, &calls)?;
-    write_questions(rt, &frames)
+    write_calls(rt, frames, &calls)
 }
 
-fn locks_of_a_thread(rt: HostRuntime) -> io::Result<()> {
-    let mut frames = Frames::new(rt.alloc(), CpuNo(0), 2)?;
+fn locks_of_a_thread(rt: HostRuntime, frames: &mut Frames) -> io::Result<()>
+    requires { frames.old ≡ no_frames 2 }
+{
     let calls = [
         FrameCall::SwitchTo(T1),
         FrameCall::Begin(Body::Base(T1), 1),
@@ -204,7 +225,5 @@ fn locks_of_a_thread(rt: HostRuntime) -> io::Result<()> {
         FrameCall::Free,
         FrameCall::Acquired(LockNo(5), false),
     ];
-    write_calls(rt, &mut frames, &calls)?;
-    write_locks(rt, frames.last_held(), frames.spinning())?;
-    write_levels(rt, frames.level(), frames.level_after())
+    write_calls(rt, frames, &calls)
 }

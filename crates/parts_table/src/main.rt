@@ -71,15 +71,21 @@ fn put_case(rt: HostRuntime, group: Group, entry: &str) -> io::Result<()> {
     }
 }
 
+/// Writes a line of the input, and the answers of the case that it is.
+fn put_line(rt: HostRuntime, group: &mut Group, entry: &str) -> io::Result<()> {
+    println!(rt; "{entry}")?;
+    match heading(entry) {
+        Some(next) => *group = next,
+        None => put_case(rt, *group, entry)?,
+    }
+    Ok(())
+}
+
 fn main(rt: HostRuntime) -> io::Result<()> {
     let mut group = Group::Parts;
     for line in rt.lines(rt.alloc()) {
         let entry = line?;
-        println!(rt; "{entry}")?;
-        match heading(entry.as_str()) {
-            Some(next) => group = next,
-            None => put_case(rt, group, entry.as_str())?,
-        }
+        put_line(rt, &mut group, entry.as_str())?;
     }
     Ok(())
 }

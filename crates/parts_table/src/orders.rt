@@ -1,5 +1,5 @@
 //! Calls in an order that no run makes, but that their conditions allow. Orders that a condition
-//! refuses are in `must-fail`.
+//! refuses are in tools/planted.txt, of kind contracts.
 mod apcs;
 mod dpcs;
 mod frames;

@@ -17,13 +17,25 @@ const FREE: Regions = Regions {
 pub fn answer(rt: HostRuntime, case: &str) -> io::Result<()> {
     match case {
         "tests at a wait in their order" => tests_at_a_wait(rt),
-        "a mark ends a plain user wait" => a_mark_ends_a_wait(rt),
-        "a release ends a wait and no delay" => a_release(rt),
-        "a delay ends under its own number" => a_delay(rt),
-        "an alert ends an alertable wait of its mode" => an_alert(rt),
-        "a user apc ends an alertable user wait" => a_user_apc(rt),
-        "a wait that a kernel apc interrupts is taken up again" => an_interrupted_wait(rt),
-        "a thread gives way and runs down" => a_rundown(rt),
+        _ => answer_of_a_thread(rt, case),
+    }
+}
+
+/// Writes the answers of a case that begins with a running thread.
+fn answer_of_a_thread(rt: HostRuntime, case: &str) -> io::Result<()> {
+    let mut thread = running(rt.alloc())?;
+    make_calls(rt, case, &mut thread)
+}
+
+fn make_calls(rt: HostRuntime, case: &str, thread: &mut ThreadState) -> io::Result<()> {
+    match case {
+        "a mark ends a plain user wait" => a_mark_ends_a_wait(rt, thread),
+        "a release ends a wait and no delay" => a_release(rt, thread),
+        "a delay ends under its own number" => a_delay(rt, thread),
+        "an alert ends an alertable wait of its mode" => an_alert(rt, thread),
+        "a user apc ends an alertable user wait" => a_user_apc(rt, thread),
+        "a wait that a kernel apc interrupts is taken up again" => an_interrupted_wait(rt, thread),
+        "a thread gives way and runs down" => a_rundown(rt, thread),
         _ => println!(rt; "  no such case"),
     }
 }
@@ -204,8 +216,7 @@ fn resumed(rt: HostRuntime, thread: &mut ThreadState) -> io::Result<()> {
     Ok(())
 }
 
-fn a_mark_ends_a_wait(rt: HostRuntime) -> io::Result<()> {
-    let mut thread = running(rt.alloc())?;
+fn a_mark_ends_a_wait(rt: HostRuntime, thread: &mut ThreadState) -> io::Result<()> {
     write_apc(rt, "apc", thread.apc(ApcNo(1), ApcKind::User, 2))?;
     write_pick(rt, "user due", thread.user_due())?;
     write_yes(rt, "test alert", thread.test_alert(Mode::User))?;
@@ -224,40 +235,37 @@ fn a_mark_ends_a_wait(rt: HostRuntime) -> io::Result<()> {
     )
 }
 
-fn a_release(rt: HostRuntime) -> io::Result<()> {
-    let mut thread = running(rt.alloc())?;
+fn a_release(rt: HostRuntime, thread: &mut ThreadState) -> io::Result<()> {
     let plain = wait(Mode::Kernel, false);
     write_wait(rt, thread.wait(plain, FREE, Level::APC), "")?;
     write_number(rt, "level", u64::from(thread.level().number()))?;
-    write_endings(rt, &thread)?;
+    write_endings(rt, thread)?;
     write_yes(rt, "end delay", thread.end_delay(9))?;
     write_status(rt, "status", thread.status())?;
     write_yes(rt, "release", thread.release())?;
     write_status(rt, "status", thread.status())?;
     write_yes(rt, "ready", thread.is_ready())?;
-    resumed(rt, &mut thread)?;
+    resumed(rt, thread)?;
     write_yes(rt, "running", thread.is_running())
 }
 
-fn a_delay(rt: HostRuntime) -> io::Result<()> {
-    let mut thread = running(rt.alloc())?;
+fn a_delay(rt: HostRuntime, thread: &mut ThreadState) -> io::Result<()> {
     let delay = WaitSpec {
         reached: Some(false),
         ..wait(Mode::Kernel, false)
     };
     write_wait(rt, thread.wait(delay, FREE, Level::PASSIVE), "")?;
-    write_endings(rt, &thread)?;
+    write_endings(rt, thread)?;
     write_yes(rt, "release", thread.release())?;
     write_yes(rt, "end delay 8", thread.end_delay(8))?;
     write_yes(rt, "end delay 9", thread.end_delay(9))?;
     write_yes(rt, "end delay 9", thread.end_delay(9))
 }
 
-fn an_alert(rt: HostRuntime) -> io::Result<()> {
-    let mut thread = running(rt.alloc())?;
+fn an_alert(rt: HostRuntime, thread: &mut ThreadState) -> io::Result<()> {
     let alertable = wait(Mode::User, true);
     write_wait(rt, thread.wait(alertable, FREE, Level::PASSIVE), "")?;
-    write_endings(rt, &thread)?;
+    write_endings(rt, thread)?;
     write_alert(rt, thread.alert(Mode::User))?;
     write_yes(rt, "was alerted", thread.was_alerted(Mode::User))?;
     write_alert(rt, thread.alert(Mode::User))?;
@@ -272,8 +280,7 @@ fn write_taking(rt: HostRuntime, takes: bool, first: Option<Pick>) -> io::Result
     println!(rt; "  takes {takes}, first {first:?}")
 }
 
-fn a_user_apc(rt: HostRuntime) -> io::Result<()> {
-    let mut thread = running(rt.alloc())?;
+fn a_user_apc(rt: HostRuntime, thread: &mut ThreadState) -> io::Result<()> {
     let alertable = wait(Mode::User, true);
     write_wait(rt, thread.wait(alertable, FREE, Level::PASSIVE), "")?;
     write_taking(rt, thread.takes(ApcNo(1)), thread.user_first())?;
@@ -285,15 +292,14 @@ fn a_user_apc(rt: HostRuntime) -> io::Result<()> {
 }
 
 /// A normal kernel APC waits for the end of a critical region, and a special one ends the wait.
-fn an_interrupted_wait(rt: HostRuntime) -> io::Result<()> {
-    let mut thread = running(rt.alloc())?;
+fn an_interrupted_wait(rt: HostRuntime, thread: &mut ThreadState) -> io::Result<()> {
     let spec = wait(Mode::Kernel, false);
     let critical = Regions { crit: 1, ..FREE };
     write_wait(rt, thread.wait(spec, critical, Level::PASSIVE), "")?;
     write_apc(rt, "apc 3", thread.apc(ApcNo(3), ApcKind::Normal, 11))?;
     write_apc(rt, "apc 0", thread.apc(ApcNo(0), ApcKind::Special, 12))?;
     write_yes(rt, "has kernel", thread.has_kernel())?;
-    resumed(rt, &mut thread)?;
+    resumed(rt, thread)?;
     write_pick(
         rt,
         "deliverable",
@@ -323,17 +329,16 @@ fn write_gone(rt: HostRuntime, gone: bool, leaving: bool) -> io::Result<()> {
 }
 
 /// What is left of a thread once its base routine has ended.
-fn a_rundown(rt: HostRuntime) -> io::Result<()> {
-    let mut thread = running(rt.alloc())?;
+fn a_rundown(rt: HostRuntime, thread: &mut ThreadState) -> io::Result<()> {
     thread.give_way(Level::APC);
     write_number(rt, "level", u64::from(thread.level().number()))?;
-    resumed(rt, &mut thread)?;
+    resumed(rt, thread)?;
     write_apc(rt, "apc 1", thread.apc(ApcNo(1), ApcKind::User, 4))?;
     write_apc(rt, "apc 2", thread.apc(ApcNo(2), ApcKind::User, 5))?;
     thread.leave();
     write_yes(rt, "leaving", thread.is_leaving())?;
     write_apc(rt, "apc 3", thread.apc(ApcNo(3), ApcKind::User, 8))?;
-    run_down(rt, &mut thread)
+    run_down(rt, thread)
 }
 
 /// Flushes the thread that leaves, which is gone then.

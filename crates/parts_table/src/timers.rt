@@ -1,4 +1,7 @@
 //! The timers and delays of a script: the worked examples.
+ghost use Rattle.std.specs.Prelude.{◌≡◌};
+ghost use Rattle.nt_timer.specs.Settings.{new_timers};
+
 use crate::writing::{write_number, write_yes};
 use nt_event::{ThreadNo, TimerKey, TimerNo};
 use nt_timer::{Expired, SetAnswer, TimerQueue};
@@ -6,11 +9,21 @@ use std::io;
 
 /// Writes the answers of a case.
 pub fn answer(rt: HostRuntime, case: &str) -> io::Result<()> {
+    let mut queue = TimerQueue::new(rt.alloc(), 3, 1)?;
+    make_calls(rt, case, &mut queue)
+}
+
+/// Makes the calls of a case; nothing is set.
+fn make_calls(rt: HostRuntime, case: &str, queue: &mut TimerQueue) -> io::Result<()>
+    requires { queue.old ≡ new_timers 3 1 }
+{
     match case {
-        "a timer is set and cancelled" => set_and_cancelled(rt),
-        "due keys expire by due time then by number" => due_keys_expire_in_order(rt),
-        "a late periodic timer expires once and counts from then" => a_late_periodic_timer(rt),
-        "a delay replaces the one before" => a_second_delay(rt),
+        "a timer is set and cancelled" => set_and_cancelled(rt, queue),
+        "due keys expire by due time then by number" => due_keys_expire_in_order(rt, queue),
+        "a late periodic timer expires once and counts from then" => {
+            a_late_periodic_timer(rt, queue)
+        }
+        "a delay replaces the one before" => a_second_delay(rt, queue),
         _ => println!(rt; "  no such case"),
     }
 }
@@ -28,60 +41,64 @@ pub(crate) fn write_expiry(rt: HostRuntime, expired: Expired) -> io::Result<()> 
     println!(rt; "  expire {expired:?}")
 }
 
-fn set_and_cancelled(rt: HostRuntime) -> io::Result<()> {
+fn set_and_cancelled(rt: HostRuntime, queue: &mut TimerQueue) -> io::Result<()>
+    requires { queue.old ≡ new_timers 3 1 }
+{
     let t = TimerNo(0);
-    let mut queue = TimerQueue::new(rt.alloc(), 1, 0)?;
     write_yes(rt, "is set", queue.is_set(t))?;
     write_set(rt, queue.set(t, 1, 0, 2))?;
     write_yes(rt, "is set", queue.is_set(t))?;
     write_set(rt, queue.set(t, 0, 0, 3))?;
-    write_first(rt, &queue)?;
+    write_first(rt, queue)?;
     write_yes(rt, "cancel", queue.cancel(t))?;
     write_yes(rt, "is set", queue.is_set(t))?;
     write_yes(rt, "cancel", queue.cancel(t))?;
-    write_first(rt, &queue)
+    write_first(rt, queue)
 }
 
-fn due_keys_expire_in_order(rt: HostRuntime) -> io::Result<()> {
+fn due_keys_expire_in_order(rt: HostRuntime, queue: &mut TimerQueue) -> io::Result<()>
+    requires { queue.old ≡ new_timers 3 1 }
+{
     let [a, b, c] = [TimerNo(0), TimerNo(1), TimerNo(2)];
     let w = ThreadNo(0);
-    let mut queue = TimerQueue::new(rt.alloc(), 3, 1)?;
     queue.set(a, 5, 0, 3);
     queue.set(b, 4, 0, 4);
     queue.set_delay(w, 5, 1);
     queue.set(c, 9, 0, 2);
-    write_first(rt, &queue)?;
+    write_first(rt, queue)?;
     queue.advance(5);
     write_number(rt, "now", queue.now())?;
-    write_first(rt, &queue)?;
+    write_first(rt, queue)?;
     write_expiry(rt, queue.expire(TimerKey::Timer(b), 7))?;
-    write_first(rt, &queue)?;
+    write_first(rt, queue)?;
     write_expiry(rt, queue.expire(TimerKey::Delay(w), 8))?;
-    write_first(rt, &queue)?;
+    write_first(rt, queue)?;
     write_expiry(rt, queue.expire(TimerKey::Timer(a), 9))?;
-    write_first(rt, &queue)?;
+    write_first(rt, queue)?;
     write_yes(rt, "is set", queue.is_set(c))
 }
 
-fn a_late_periodic_timer(rt: HostRuntime) -> io::Result<()> {
+fn a_late_periodic_timer(rt: HostRuntime, queue: &mut TimerQueue) -> io::Result<()>
+    requires { queue.old ≡ new_timers 3 1 }
+{
     let t = TimerNo(0);
-    let mut queue = TimerQueue::new(rt.alloc(), 1, 0)?;
     queue.set(t, 1, 1, 1);
     queue.advance(3);
-    write_first(rt, &queue)?;
+    write_first(rt, queue)?;
     write_expiry(rt, queue.expire(TimerKey::Timer(t), 5))?;
-    write_first(rt, &queue)?;
+    write_first(rt, queue)?;
     queue.advance(1);
-    write_first(rt, &queue)
+    write_first(rt, queue)
 }
 
-fn a_second_delay(rt: HostRuntime) -> io::Result<()> {
+fn a_second_delay(rt: HostRuntime, queue: &mut TimerQueue) -> io::Result<()>
+    requires { queue.old ≡ new_timers 3 1 }
+{
     let w = ThreadNo(0);
-    let mut queue = TimerQueue::new(rt.alloc(), 0, 1)?;
     queue.set_delay(w, 3, 1);
     queue.set_delay(w, 4, 2);
     queue.advance(3);
-    write_first(rt, &queue)?;
+    write_first(rt, queue)?;
     queue.advance(1);
-    write_first(rt, &queue)
+    write_first(rt, queue)
 }

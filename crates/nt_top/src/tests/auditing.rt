@@ -1,8 +1,7 @@
 //! `audit`: what was pending at each note, and that its workers work at the same time.
 use super::gives;
-use super::live::{MeetingGate, TWO_NOTERS, program_with};
+use super::live::{MeetingGate, workers_meet};
 use crate::Status;
-use std::sync::atomic::Ordering;
 use std::test::Fail;
 
 /// An interrupt queues a DPC and requests another interrupt, in which a word is noted; the DPC
@@ -28,10 +27,6 @@ fn workers_make_one_audit(rt: HostRuntime) -> Result<(), Fail> {
 #[test]
 fn two_workers_meet_at_the_gate(rt: HostRuntime) -> Result<(), Fail> {
     let gate = MeetingGate::before(0);
-    let found = program_with(&rt, &["audit", "--workers", "2"], TWO_NOTERS, &gate)?;
-    assert_eq!(rt; found.0, Status::Ok);
-    assert_eq!(rt; gate.first.load(Ordering::SeqCst), 1);
-    assert_eq!(rt; gate.second.load(Ordering::SeqCst), 1);
-    assert_eq!(rt; gate.missed.load(Ordering::SeqCst), 0);
+    assert!(rt; workers_meet(&rt, &["audit", "--workers", "2"], &gate)?);
     Ok(())
 }

@@ -2,13 +2,12 @@
 //! another at the gate.
 
 use super::{
-    Form, Found, IDLE_TARGET, RAISE_QUEUE_LOWER, RAISED_REPORT, SELF_QUEUING, World, failing_reads,
-    failing_writes, gives, is_found, is_replayed, program, program_in, put_words, sink_of,
-    sound_world, source_of,
+    Form, Found, IDLE_TARGET, RAISE_QUEUE_LOWER, RAISED_REPORT, SELF_QUEUING, World, fails_each,
+    gives, is_found, is_found_again, program, program_at, program_in, put_words, sound_world,
 };
-use crate::{Status, is_live, ntrun};
+use crate::{Status, is_live};
 use nt_outside::Gate;
-use std::alloc::AllocError;
+use std::alloc::{AllocError, Global};
 use std::sync::Wait;
 use std::sync::atomic::{AtomicU64, Ordering};
 use std::test::Fail;
@@ -25,6 +24,15 @@ fn is_legal<R: AllocGlobal + Threads + Wait + Sync>(
     gives(rt, &["check"], input.as_slice(), Status::Ok, "legal\n")
 }
 
+/// Whether a report of the script was found that is called legal, and replayed to the same bytes.
+fn is_report_of<R: AllocGlobal + Threads + Wait + Sync>(
+    rt: &R,
+    script: &str,
+    found: &Found,
+) -> Result<bool, AllocError> {
+    Ok(is_found_again(rt, script, found)? && is_legal(rt, script, found.1.as_slice())?)
+}
+
 /// Whether the words, which are the form `live`, write a report of the script that is called legal
 /// and replayed to the same bytes.
 fn is_reported<R: AllocGlobal + Threads + Wait + Sync>(
@@ -33,10 +41,7 @@ fn is_reported<R: AllocGlobal + Threads + Wait + Sync>(
     script: &str,
 ) -> Result<bool, AllocError> {
     let found = program(rt, words, script.as_bytes())?;
-    let report = found.1.as_slice();
-    let legal = is_legal(rt, script, report)?;
-    let replayed = is_replayed(rt, script, report)?;
-    Ok(found.0 == Status::Ok && legal && replayed)
+    is_report_of(rt, script, &found)
 }
 
 #[test]
@@ -59,17 +64,22 @@ fn live_reports_a_driver_in_use(rt: HostRuntime) -> Result<(), Fail> {
     Ok(())
 }
 
+/// Whether a fault of the source is told.
+fn read_fault_is_told<R: AllocGlobal + Threads + Wait + Sync>(rt: &R) -> Result<bool, AllocError> {
+    let world = World {
+        source_fails: &[1],
+        ..sound_world()
+    };
+    let found = program_in(rt, &["live"], IDLE_TARGET.as_bytes(), &world)?;
+    Ok(is_found(&found, Status::Read, b"read fault\n"))
+}
+
 /// A script is refused as `run` refuses it, and a fault of the source is told.
 #[test]
 fn live_refuses_as_run_does(rt: HostRuntime) -> Result<(), Fail> {
     let line = "script line 1: 10 TooMany cpus\n";
     assert!(rt; gives(&rt, &["live"], b"cpus 9\n", Status::Script, line)?);
-    let world = World {
-        source_fails: &[1],
-        ..sound_world()
-    };
-    let found = program_in(&rt, &["live"], IDLE_TARGET.as_bytes(), &world)?;
-    assert!(rt; is_found(&found, Status::Read, b"read fault\n"));
+    assert!(rt; read_fault_is_told(&rt)?);
     Ok(())
 }
 
@@ -83,24 +93,26 @@ fn each_call_of_a_live_run_fails(rt: HostRuntime) -> Result<(), Fail> {
         status: Status::Ok,
         text: RAISED_REPORT.as_bytes(),
     };
-    assert_eq!(rt; failing_reads(&rt, &form)?, Some(8));
-    assert_eq!(rt; failing_writes(&rt, &form)?, Some(25));
+    assert!(rt; fails_each(&rt, &form, 8, 25)?);
     Ok(())
+}
+
+/// Whether these words are the form `live`, or another one that runs in threads.
+fn are_live(alloc: Global, words: &[&str]) -> Result<bool, AllocError> {
+    let mut given = Vec::new(alloc);
+    put_words(&mut given, alloc, words)?;
+    Ok(is_live(given.as_slice()))
 }
 
 #[test]
 fn words_are_live(rt: HostRuntime) -> Result<(), Fail> {
-    let words = [
-        String::from_str(rt.alloc(), "--turns=5")?,
-        String::from_str(rt.alloc(), "live")?,
-    ];
-    assert!(rt; is_live(words.as_slice()));
-    assert!(rt; !is_live(&words.as_slice()[..1]));
+    assert!(rt; are_live(rt.alloc(), &["--turns=5", "live"])?);
+    assert!(rt; !are_live(rt.alloc(), &["--turns=5"])?);
     Ok(())
 }
 
 /// Two processors, and on each a thread that makes four calls.
-pub(super) const TWO_NOTERS: &str =
+const TWO_NOTERS: &str =
     "cpus 2\nthread a 0 ra\nthread b 1 rb\nroutine ra\nnote 1\nnote 2\nnote 3\nnote 4\nexit\nroutine rb\nnote 5\nnote 6\nnote 7\nnote 8\nexit\n";
 
 /// The call of the second event of processor 0, and that of the fifth event of processor 1.
@@ -133,9 +145,9 @@ fn look_for(flag: &AtomicU64, missed: &AtomicU64) {
 #[derive(Drop)]
 pub(super) struct MeetingGate {
     own: u64,
-    pub(super) first: AtomicU64,
-    pub(super) second: AtomicU64,
-    pub(super) missed: AtomicU64,
+    first: AtomicU64,
+    second: AtomicU64,
+    missed: AtomicU64,
 }
 
 impl MeetingGate {
@@ -147,6 +159,13 @@ impl MeetingGate {
             second: AtomicU64::new(0),
             missed: AtomicU64::new(0),
         }
+    }
+
+    /// Whether both came, and each saw the other one.
+    fn is_met(&self) -> bool {
+        self.first.load(Ordering::SeqCst) == 1
+            && self.second.load(Ordering::SeqCst) == 1
+            && self.missed.load(Ordering::SeqCst) == 0
     }
 }
 
@@ -182,25 +201,24 @@ impl Gate for OrderGate {
 }
 
 /// What these words answer and write over the script with this gate.
-pub(super) fn program_with<G: Gate + Sync, R: AllocGlobal + Threads + Wait + Sync>(
+fn program_with<G: Gate + Sync, R: AllocGlobal + Threads + Wait + Sync>(
     rt: &R,
     words: &[&str],
     script: &str,
     gate: &G,
 ) -> Result<Found, AllocError> {
-    let mut given = Vec::new(rt.alloc());
-    put_words(&mut given, rt.alloc(), words)?;
-    let mut source = source_of(rt.alloc(), script.as_bytes(), &[])?;
-    let mut sink = sink_of(rt.alloc(), 1_000_000, &[])?;
-    let status = ntrun(
-        rt,
-        rt.alloc(),
-        given.as_slice(),
-        &mut source,
-        &mut sink,
-        gate,
-    );
-    Ok((status, sink.bytes().to_vec(rt.alloc())?))
+    program_at(rt, words, script.as_bytes(), &sound_world(), gate)
+}
+
+/// Whether these words run two workers, of which each waits at the gate until the other one stands
+/// there.
+pub(super) fn workers_meet<R: AllocGlobal + Threads + Wait + Sync>(
+    rt: &R,
+    words: &[&str],
+    gate: &MeetingGate,
+) -> Result<bool, AllocError> {
+    let found = program_with(rt, words, TWO_NOTERS, gate)?;
+    Ok(found.0 == Status::Ok && gate.is_met())
 }
 
 /// Neither processor passes the gate before the other one stands there: they turn in workers that
@@ -208,17 +226,30 @@ pub(super) fn program_with<G: Gate + Sync, R: AllocGlobal + Threads + Wait + Syn
 #[test]
 fn two_processors_meet_at_the_gate(rt: HostRuntime) -> Result<(), Fail> {
     let gate = MeetingGate::before(1);
-    let found = program_with(&rt, &["live"], TWO_NOTERS, &gate)?;
-    assert_eq!(rt; found.0, Status::Ok);
-    assert_eq!(rt; gate.first.load(Ordering::SeqCst), 1);
-    assert_eq!(rt; gate.second.load(Ordering::SeqCst), 1);
-    assert_eq!(rt; gate.missed.load(Ordering::SeqCst), 0);
+    assert!(rt; workers_meet(&rt, &["live"], &gate)?);
     Ok(())
 }
 
 /// Where a piece stands in a report.
 fn place_of(report: &[u8], piece: &[u8]) -> Option<usize> {
     (0..report.len()).find(|place| report[*place..].starts_with(piece))
+}
+
+/// Whether the fifth event of processor 1 stands before the second one of processor 0.
+fn is_turned(report: &[u8]) -> bool {
+    let second = place_of(report, SECOND);
+    let fifth = place_of(report, FIFTH);
+    fifth.is_some() && fifth < second
+}
+
+/// Whether the report keeps that order, and processor 0 saw at the gate what it waited for.
+fn keeps_the_order<R: AllocGlobal + Threads + Wait + Sync>(
+    rt: &R,
+    gate: &OrderGate,
+) -> Result<bool, AllocError> {
+    let found = program_with(rt, &["live"], TWO_NOTERS, gate)?;
+    let is_seen = gate.missed.load(Ordering::SeqCst) == 0;
+    Ok(found.0 == Status::Ok && is_seen && is_turned(found.1.as_slice()))
 }
 
 /// The report is that of the workers' history: processor 0, which the gate holds up, makes its
@@ -229,11 +260,6 @@ fn the_report_keeps_the_order_of_the_gate(rt: HostRuntime) -> Result<(), Fail> {
         behind: AtomicU64::new(0),
         missed: AtomicU64::new(0),
     };
-    let found = program_with(&rt, &["live"], TWO_NOTERS, &gate)?;
-    assert_eq!(rt; found.0, Status::Ok);
-    assert_eq!(rt; gate.missed.load(Ordering::SeqCst), 0);
-    let second = place_of(found.1.as_slice(), SECOND);
-    let fifth = place_of(found.1.as_slice(), FIFTH);
-    assert!(rt; fifth.is_some() && fifth < second);
+    assert!(rt; keeps_the_order(&rt, &gate)?);
     Ok(())
 }

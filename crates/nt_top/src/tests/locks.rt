@@ -2,7 +2,9 @@
 use super::{RAISE_QUEUE_LOWER, gives};
 use crate::Status;
 use std::alloc::{AllocError, Global};
+use std::sync::Wait;
 use std::test::Fail;
+use std::thread::Threads;
 
 /// Two threads acquire two locks in opposite order.
 const OPPOSITE: &str =
@@ -19,21 +21,32 @@ fn newest(alloc: Global, script: &str) -> Result<String, AllocError> {
     Ok(text)
 }
 
+/// Whether `migrate` writes this text of the script, and of itself.
+fn gives_newest<R: AllocGlobal + Threads + Wait + Sync>(
+    rt: &R,
+    script: &str,
+    text: &str,
+) -> Result<bool, AllocError> {
+    let words = ["migrate"];
+    Ok(
+        gives(rt, &words, script.as_bytes(), Status::Ok, text)?
+            && gives(rt, &words, text.as_bytes(), Status::Ok, text)?,
+    )
+}
+
+/// Whether the script is migrated.
+fn is_migrated<R: AllocGlobal + Threads + Wait + Sync>(
+    rt: &R,
+    script: &str,
+) -> Result<bool, AllocError> {
+    let text = newest(rt.alloc(), script)?;
+    gives_newest(rt, script, text.as_str())
+}
+
 /// A script of version 1 gets the line of version 2; one of version 2 stays as it is.
 #[test]
 fn a_script_is_migrated(rt: HostRuntime) -> Result<(), Fail> {
-    let text = newest(rt.alloc(), RAISE_QUEUE_LOWER)?;
-    let old = RAISE_QUEUE_LOWER.as_bytes();
-    assert!(rt; gives(&rt, &["migrate"], old, Status::Ok, text.as_str())?);
-    assert!(rt;
-        gives(
-            &rt,
-            &["migrate"],
-            text.as_bytes(),
-            Status::Ok,
-            text.as_str()
-        )?
-    );
+    assert!(rt; is_migrated(&rt, RAISE_QUEUE_LOWER)?);
     Ok(())
 }
 
@@ -77,21 +90,31 @@ fn put_rests(report: &mut String, cpus: u32) -> Result<(), AllocError> {
     report.push_str("done\n")
 }
 
+/// A script of 64 processors that only rest.
+const RESTS: &[u8] = b"version 2\ncpus 64\n";
+
+/// Whether a run writes this report of them, whatever turn limit is given.
+fn gives_rests<R: AllocGlobal + Threads + Wait + Sync>(
+    rt: &R,
+    report: &str,
+) -> Result<bool, AllocError> {
+    let many = ["run", "--turns", "20000"];
+    Ok(
+        gives(rt, &["run"], RESTS, Status::Ok, report)?
+            && gives(rt, &many, RESTS, Status::Ok, report)?,
+    )
+}
+
+/// Whether they are reported.
+fn rests_are_reported<R: AllocGlobal + Threads + Wait + Sync>(rt: &R) -> Result<bool, AllocError> {
+    let mut report = String::new(rt.alloc());
+    put_rests(&mut report, 64)?;
+    gives_rests(rt, report.as_str())
+}
+
 /// The turn limit of more than eight processors is 2,500 at most.
 #[test]
 fn many_processors_have_fewer_turns(rt: HostRuntime) -> Result<(), Fail> {
-    let mut report = String::new(rt.alloc());
-    put_rests(&mut report, 64)?;
-    let script = b"version 2\ncpus 64\n";
-    assert!(rt; gives(&rt, &["run"], script, Status::Ok, report.as_str())?);
-    assert!(rt;
-        gives(
-            &rt,
-            &["run", "--turns", "20000"],
-            script,
-            Status::Ok,
-            report.as_str()
-        )?
-    );
+    assert!(rt; rests_are_reported(&rt)?);
     Ok(())
 }

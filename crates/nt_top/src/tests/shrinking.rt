@@ -54,15 +54,26 @@ fn schedules_are_not_shrunk(rt: HostRuntime) -> Result<(), Fail> {
     Ok(())
 }
 
-/// A schedule of 1,001 turns is too long, whatever its turns are.
-#[test]
-fn a_schedule_is_too_long(rt: HostRuntime) -> Result<(), Fail> {
-    let mut schedule = String::from_str(rt.alloc(), "schedule 10000\n")?;
+/// Puts a schedule of 1,001 turns.
+fn put_turns(schedule: &mut String) -> Result<(), AllocError> {
+    schedule.push_str("schedule 10000\n")?;
     for _ in 0..1_001 {
         schedule.push_str("next 1\n")?;
     }
-    schedule.push_str("done\n")?;
+    schedule.push_str("done\n")
+}
+
+/// Whether that schedule is too long.
+fn is_too_long<R: AllocGlobal + Threads + Wait + Sync>(rt: &R) -> Result<bool, AllocError> {
+    let mut schedule = String::new(rt.alloc());
+    put_turns(&mut schedule)?;
     let text = schedule.as_str();
-    assert!(rt; shrinks(&rt, "--goal=d", text, Status::TooMany, "too many turns\n")?);
+    shrinks(rt, "--goal=d", text, Status::TooMany, "too many turns\n")
+}
+
+/// A schedule of 1,001 turns is too long, whatever its turns are.
+#[test]
+fn a_schedule_is_too_long(rt: HostRuntime) -> Result<(), Fail> {
+    assert!(rt; is_too_long(&rt)?);
     Ok(())
 }

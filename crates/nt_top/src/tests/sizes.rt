@@ -2,7 +2,9 @@
 use super::gives;
 use crate::Status;
 use std::alloc::AllocError;
+use std::sync::Wait;
 use std::test::Fail;
+use std::thread::Threads;
 
 /// Puts a script with a thread that makes 8,192 notes.
 fn put_notes(script: &mut String) -> Result<(), AllocError> {
@@ -27,20 +29,25 @@ fn put_noted(wanted: &mut String) -> Result<(), AllocError> {
     wanted.push_str("done\n")
 }
 
-#[test]
-fn eight_thousand_notes_are_run(rt: HostRuntime) -> Result<(), Fail> {
-    let mut script = String::new(rt.alloc());
-    put_notes(&mut script)?;
+/// Whether that report is written of this script.
+fn is_noted<R: AllocGlobal + Threads + Wait + Sync>(
+    rt: &R,
+    script: &str,
+) -> Result<bool, AllocError> {
     let mut wanted = String::new(rt.alloc());
     put_noted(&mut wanted)?;
-    assert!(rt;
-        gives(
-            &rt,
-            &["run"],
-            script.as_bytes(),
-            Status::Ok,
-            wanted.as_str(),
-        )?
-    );
+    gives(rt, &["run"], script.as_bytes(), Status::Ok, wanted.as_str())
+}
+
+/// Whether the script is run.
+fn notes_are_run<R: AllocGlobal + Threads + Wait + Sync>(rt: &R) -> Result<bool, AllocError> {
+    let mut script = String::new(rt.alloc());
+    put_notes(&mut script)?;
+    is_noted(rt, script.as_str())
+}
+
+#[test]
+fn eight_thousand_notes_are_run(rt: HostRuntime) -> Result<(), Fail> {
+    assert!(rt; notes_are_run(&rt)?);
     Ok(())
 }

@@ -5,4 +5,4 @@ use Rattle.parts_table.proofs.frames.locks_of_a_thread.Goals as goal
 
 pub write_calls-requires : goal.write_calls-requires
 unfolding table_from
-write_calls-requires c = rw c.in_ok-frames.ensures.none (calls_allowed _ _ refl)
+write_calls-requires c = rw c.requires (calls_allowed _ _ refl)
