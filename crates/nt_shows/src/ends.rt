@@ -5,7 +5,6 @@ ghost use Rattle.nt_event.specs.declared.events.Event.{Event};
 ghost use Rattle.nt_event.specs.Apcs.{is_inserted, is_of_apc};
 ghost use Rattle.nt_event.specs.Lanes.{facts_at, lanes_at, lock_at, object_at};
 ghost use Rattle.nt_event.specs.Objects.{is_queued};
-ghost use Rattle.nt_event.specs.Routines.{owner_of};
 ghost use Rattle.nt_event.specs.Script.{has_dpc, has_lock};
 ghost use Rattle.nt_event.specs.Threads.{waiting};
 ghost use Rattle.nt_expect.specs.Expectations.{expectation_fits};

@@ -1,12 +1,11 @@
 //! Whether an event is one that an expectation watches for.
-ghost use Rattle.std.specs.List.{list_any};
 ghost use Rattle.std.specs.Prelude.{◌≡◌, List, Some, true};
 ghost use Rattle.nt_event.specs.declared.commands.Command.TheVariants as cmd;
 ghost use Rattle.nt_event.specs.declared.commands.TimerKey.TheVariants as keys;
 ghost use Rattle.nt_event.specs.declared.events.Begun.TheVariants as begun;
 ghost use Rattle.nt_event.specs.declared.events.Event.{Event as Made};
 ghost use Rattle.nt_event.specs.declared.events.What.TheVariants as what_of;
-ghost use Rattle.nt_event.specs.Families.{in_begin, in_call, in_expiry, in_switch};
+ghost use Rattle.nt_event.specs.Families.{in_begin, in_call, in_expiry};
 ghost use Rattle.nt_event.specs.Fate.{apc_begun};
 ghost use Rattle.nt_event.specs.Objects.{dpc_begun};
 ghost use Rattle.nt_event.specs.Replies.{is_refused};
