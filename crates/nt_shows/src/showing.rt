@@ -47,7 +47,8 @@ fn is_open(activity: &Activity, frames: &[Frame]) -> bool
         .any(|frame| is_routine_of(activity, frame.body()))
 }
 
-/// Whether a frame of the thread that runs is of the activity.
+/// Whether a frame of the thread that runs is of the activity. A thread that the processor doesn't
+/// know has none.
 fn is_open_on_thread(activity: &Activity, frames: &Frames) -> bool
     ensures { result ≡ is_open activity.now (thread_part frames.now) }
 {
