@@ -1,0 +1,4 @@
+pub mod Telling
+pub mod Begun
+pub mod Together
+pub mod Left
