@@ -1,3 +1,4 @@
+pub mod Asks
 pub mod Threads
 pub mod Frames
 pub mod Cpus

@@ -12,12 +12,14 @@
 //! ([`same_shades_are_alike`]).
 #![tactic(auto)]
 
+mod asks;
 mod cpus;
 mod frames;
 mod laws;
 mod shade;
 mod threads;
 
+pub use asks::unnoticed_of;
 pub use cpus::{ShadeCpu, cpus_of};
 pub use frames::ShadeFrame;
 pub use laws::{equal_shades_say_the_same, same_shades_are_alike};
