@@ -4,7 +4,8 @@
 //!
 //! A function owns at most one value that is dropped, and ends once where it does: a test that owns
 //! several of them over several calls is expensive to prove.
-ghost use Rattle.std.specs.Prelude.{◌<◌};
+ghost use Rattle.std.specs.Prelude.{◌<◌, ◌≡◌, false, map, string_bytes};
+ghost use Rattle.nt_words.specs.Forms.{names_live};
 
 use crate::{Status, ntrun, plain};
 use nt_outside::{Gate, MemorySink, MemorySource, OpenGate};
@@ -500,7 +501,9 @@ fn plain_over(
     words: &[String],
     source: &mut MemorySource,
     sink: &mut MemorySink,
-) -> Result<Found, AllocError> {
+) -> Result<Found, AllocError>
+    requires { names_live (map string_bytes words.now) ≡ false }
+{
     let status = plain(alloc, words, source, sink);
     Ok((status, sink.bytes().to_vec(alloc)?))
 }
@@ -510,7 +513,9 @@ fn plain_from(
     alloc: Global,
     words: &[String],
     source: &mut MemorySource,
-) -> Result<Found, AllocError> {
+) -> Result<Found, AllocError>
+    requires { names_live (map string_bytes words.now) ≡ false }
+{
     let mut sink = sink_of(alloc, 100, &[])?;
     plain_over(alloc, words, source, &mut sink)
 }
