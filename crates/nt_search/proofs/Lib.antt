@@ -1,0 +1,11 @@
+pub mod Tried
+pub mod Listing
+pub mod Machines
+pub mod FlagsNoted
+pub mod Judged
+pub mod Leading
+pub mod Trying
+pub mod TryingMore
+pub mod Expanded
+pub mod Searched
+pub mod Verdict

@@ -1,0 +1,177 @@
+-- States that a list has, and one that is put to it.
+use Rattle.std.proofs.Common.{ap, append-nil, arith, inl, inr, subst, sym, ◌∙◌}
+use Rattle.std.proofs.lemmas.List.{get_or-append-add, get_or_append_left, length-append}
+use Rattle.std.proofs.lemmas.Bool.{ltb-false, ltb-true}
+use Rattle.std.specs.List.{list_any}
+use Rattle.std.specs.Prelude.{Bool, IsTrue, List, Ok, [], false, get_or, length, nat_lt, refl, true, ℕ, ◌++◌, ◌+◌, ◌<◌, ◌∷◌, ◌≡◌}
+use Rattle.nt_event.specs.declared.events.Event.{Event}
+use Rattle.nt_event.specs.declared.scripts.Script.{Script}
+use Rattle.nt_event.specs.Script.{fits}
+use Rattle.nt_event.proofs.Options.{both}
+use Rattle.nt_alike.specs.Free.{free_step}
+use Rattle.nt_alike.specs.Lists.{Among, Each}
+use Rattle.nt_alike.proofs.Compared.{declared_alike}
+use Rattle.nt_alike.proofs.Relation.{alike_self}
+use Rattle.nt_expect.specs.declared.expectations.Watched.{Watched}
+use Rattle.nt_expect.specs.Meaning.{Came}
+use Rattle.nt_shade.proofs.EqualShades.{equal_say}
+use Rattle.nt_shade.proofs.Lists.{lists_same}
+use Rattle.nt_shade.proofs.SameParts.{flag_same}
+use Rattle.nt_shade.proofs.SameShades.{same_alike}
+use Rattle.nt_verdict.specs.Closed.{AlikeWatching, CameAlike}
+use Rattle.nt_search.proofs.Tried.{came_self}
+use Rattle.nt_search.specs.declared.states.Key.{Key}
+use Rattle.nt_search.specs.declared.states.Way.{Way}
+use Rattle.nt_shows.specs.Tells.{AreCame, Tells}
+use Rattle.nt_search.specs.Keys.{AreKeys, IsKeyOf}
+use Rattle.nt_search.specs.States.{AreStates, Seen, are_equal, put}
+use Rattle.nt_search.specs.Ways.{AreWays, LeadsTo}
+
+-- where flags tell the same of two histories, the same came
+came_alike : (watched : List Watched) (h k : List Event) (flags : List Bool) → AreCame watched h flags → AreCame watched k flags →
+    Each (CameAlike h k) watched
+came_alike [] h k flags a b = tt
+came_alike (x ∷ watched) h k [] a b = absurd a
+came_alike (x ∷ watched) h k (flag ∷ flags) a b = (one flag a.0 b.0, came_alike watched h k flags a.1 b.1)
+  where
+    one : (flag : Bool) → Tells flag (Came x h) → Tells flag (Came x k) → CameAlike h k x
+    one true m n = (λ c. n, λ c. m)
+    one false m n = (λ c. absurd (m c), λ c. absurd (n c))
+
+module _ (s : Script) (watched : List Watched) (fit : IsTrue (fits s)) where
+  -- histories whose keys are equal are alike
+  pub keys_alike : (h k : List Event) (x y : Key) → IsKeyOf s watched h x → IsKeyOf s watched k y → are_equal x y ≡ true → AlikeWatching s watched h k
+  keys_alike h k x y a b e =
+      let parts = both _ _ e in
+      let say = equal_say x.shade y.shade parts.0 in
+      let flags = lists_same flag_same x.came.items y.came.items parts.1 in
+      let alike = declared_alike s h k fit a.free b.free (same_alike s h k x.shade y.shade a.shade b.shade say) in
+      (alike, came_alike watched h k y.came.items (subst (AreCame watched h) flags a.came) b.came)
+
+  -- where a key is there, one of the histories is alike
+  pub found : (h : List Event) (x : Key) (all : List (List Event)) (keys : List Key) → IsKeyOf s watched h x → AreKeys s watched all keys →
+      list_any (are_equal x) keys ≡ true → Among (AlikeWatching s watched h) all
+  found h x [] [] a are q = cc
+  found h x [] (y ∷ keys) a are q = absurd are
+  found h x (k ∷ all) [] a are q = absurd are
+  found h x (k ∷ all) (y ∷ keys) a are q = go (are_equal x y) refl (found h x all keys a are.1)
+    where
+      go : (b : Bool) → are_equal x y ≡ b → (list_any (are_equal x) keys ≡ true → Among (AlikeWatching s watched h) all) →
+          Among (AlikeWatching s watched h) (k ∷ all)
+      go true e ih = inl (keys_alike h k x y a are.0 e)
+      go false e ih = let rest = rw e at q in inr (ih rest)
+
+  -- one key more, of one history more
+  pub keys_more : (h : List Event) (x : Key) (all : List (List Event)) (keys : List Key) → IsKeyOf s watched h x → AreKeys s watched all keys →
+      AreKeys s watched (all ++ h ∷ []) (keys ++ x ∷ [])
+  keys_more h x [] [] a are = (a, tt)
+  keys_more h x [] (y ∷ keys) a are = absurd are
+  keys_more h x (k ∷ all) [] a are = absurd are
+  keys_more h x (k ∷ all) (y ∷ keys) a are = (are.0, keys_more h x all keys a are.1)
+
+  -- the last of a list is one of it
+  pub last_among : (h : List Event) (all : List (List Event)) → AlikeWatching s watched h h → Among (AlikeWatching s watched h) (all ++ h ∷ [])
+  last_among h [] a = inl a
+  last_among h (k ∷ all) a = inr (last_among h all a)
+
+-- ---- ways
+
+module _ (s : Script) (all : List (List Event)) (ways : List Way) (h : List Event) (way : Way) (are : AreWays s all ways) where
+  -- an earlier history stays where it is
+  stays : (n : ℕ) → n < length all → get_or (all ++ h ∷ []) n [] ≡ get_or all n []
+  stays n low = get_or_append_left all (h ∷ []) [] n low
+
+  at_end : get_or (all ++ h ∷ []) (length all) [] ≡ h
+  at_end =
+      let here = get_or-append-add all (h ∷ []) 0 [] in
+      let zero : length all + 0 ≡ length all = omega arith in
+      ap (λ (n : ℕ). get_or (all ++ h ∷ []) n []) (sym zero) ∙ here
+
+  way_at_end : (d : Way) → get_or (ways ++ way ∷ []) (length all) d ≡ way
+  way_at_end d =
+      let here = get_or-append-add ways (way ∷ []) 0 d in
+      let zero : length ways + 0 ≡ length all = omega (arith, are.count) in
+      ap (λ (n : ℕ). get_or (ways ++ way ∷ []) n d) (sym zero) ∙ here
+
+  -- the way leads from one of the histories to the new one
+  pub record IsNewWay : Type 0 where
+    pub from : way.from < length all
+    pub event : Event
+    pub gives : free_step s way.turn (get_or all way.from []) ≡ Ok event
+    pub is : h ≡ event ∷ get_or all way.from []
+
+  pub ways_more : IsNewWay → AreWays s (all ++ h ∷ []) (ways ++ way ∷ [])
+  ways_more new =
+      let a = length-append ways (way ∷ []) in
+      let b = length-append all (h ∷ []) in
+      record {
+        count = omega (arith, a, b, are.count);
+        some = omega (arith, b);
+        first = stays 0 are.some ∙ are.first;
+        each = λ n d low high. one n d low (omega (arith, b, high));
+      }
+    where
+      new_one : (d : Way) → LeadsTo s (all ++ h ∷ []) (length all) (get_or (ways ++ way ∷ []) (length all) d)
+      new_one d =
+          let from = stays way.from new.from in
+          subst (LeadsTo s (all ++ h ∷ []) (length all)) (sym (way_at_end d)) (record {
+            earlier = new.from;
+            event = new.event;
+            gives = rw from new.gives;
+            is = at_end ∙ new.is ∙ ap (λ (k : List Event). new.event ∷ k) (sym from);
+          })
+
+      old_one : (n : ℕ) (d : Way) → 0 < n → n < length all → LeadsTo s (all ++ h ∷ []) n (get_or (ways ++ way ∷ []) n d)
+      old_one n d low high =
+          let old = are.each n d low high in
+          let inside : n < length ways = omega (arith, high, are.count) in
+          let same = get_or_append_left ways (way ∷ []) d n inside in
+          let before : (get_or ways n d).from < length all = omega (arith, old.earlier, high) in
+          let from = stays (get_or ways n d).from before in
+          subst (LeadsTo s (all ++ h ∷ []) n) (sym same) (record {
+            earlier = old.earlier;
+            event = old.event;
+            gives = rw from old.gives;
+            is = stays n high ∙ old.is ∙ ap (λ (k : List Event). old.event ∷ k) (sym from);
+          })
+
+      one : (n : ℕ) (d : Way) → 0 < n → n < length all + 1 → LeadsTo s (all ++ h ∷ []) n (get_or (ways ++ way ∷ []) n d)
+      one n d low high = go (nat_lt n (length all)) refl
+        where
+          go : (b : Bool) → nat_lt n (length all) ≡ b → LeadsTo s (all ++ h ∷ []) n (get_or (ways ++ way ∷ []) n d)
+          go true q = old_one n d low (ltb-true n (length all) q)
+          go false q =
+              let l = ltb-false n (length all) q in
+              let e : length all ≡ n = omega (arith, l, high) in
+              subst (λ (m : ℕ). LeadsTo s (all ++ h ∷ []) m (get_or (ways ++ way ∷ []) m d)) e (new_one d)
+
+-- ---- both
+
+-- what putting a state leaves: the same states or one more, of which one is alike to the history
+pub record IsPut (s : Script) (watched : List Watched) (all : List (List Event)) (h : List Event) (x : Seen) : Type 0 where
+  pub more : List (List Event)
+  pub states : AreStates s watched (all ++ more) x
+  pub among : Among (AlikeWatching s watched h) (all ++ more)
+
+module _ (s : Script) (watched : List Watched) (all : List (List Event)) (x : Seen) (h : List Event) (key : Key) (way : Way) (fit : IsTrue (fits s))
+    (are : AreStates s watched all x) (is : IsKeyOf s watched h key) where
+  pub is_put : IsNewWay s all x.ways h way are.ways → IsPut s watched all h (put key way x)
+  is_put new = go (list_any (are_equal key) x.keys) refl
+    where
+      itself : AlikeWatching s watched h h
+      itself = (alike_self s h, came_self watched h)
+
+      go : (b : Bool) → list_any (are_equal key) x.keys ≡ b → IsPut s watched all h (put key way x)
+      go true q = rw q (record {
+        more = [];
+        states = subst (λ (hs : List (List Event)). AreStates s watched hs x) (sym (append-nil all)) are;
+        among = subst (Among (AlikeWatching s watched h)) (sym (append-nil all)) (found s watched fit h key all x.keys is are.keys q);
+      })
+      go false q = rw q (record {
+        more = h ∷ [];
+        states = record {
+          keys = keys_more s watched fit h key all x.keys is are.keys;
+          ways = ways_more s all x.ways h way are.ways new;
+        };
+        among = last_among s watched fit h all itself;
+      })

@@ -1,0 +1,5 @@
+use Rattle.nt_search.proofs.Searched.{IsSearchedTo}
+use Rattle.nt_search.proofs.plan.Plan.expand_all.Given as goal
+
+abbrev pub invariant-loop-number : goal.invariant-loop-number
+invariant-loop-number l = IsSearchedTo l.self l.found l.number

@@ -1,0 +1,33 @@
+use Rattle.std.proofs.Common.{[], List, arith, get_or, subst, sym}
+use Rattle.nt_event.specs.declared.events.Turn.{Turn}
+use Rattle.nt_expect.specs.declared.expectations.Watched.{Watched}
+use Rattle.nt_search.specs.Machines.{Stands}
+use Rattle.nt_search.specs.Ways.{Lead}
+use Rattle.nt_search.proofs.Leading.{lead_length}
+use Rattle.nt_search.proofs.plan.Plan.machine_at.Goals as goal
+
+pub walk-requires-clause-at : goal.walk-requires-clause-at
+walk-requires-clause-at c =
+    let x = c.args.self.now in
+    let s = x.script.now in
+    let h = get_or c.requires.ways.0 c.args.number [] in
+    let lead = c.in_ok-turns.ensures s c.requires.ways.0 c.requires.ways.1 in (
+      h,
+      subst (λ (ts : List Turn). Lead s ts [] h) (sym c.as_slice.ensures.value) lead,
+      subst (λ (w : List Watched). Stands s x.limit w [] c.in_ok-machine.machine) c.as_slice-watched.ensures.value c.in_ok-machine.ensures,
+    )
+
+pub returns : goal.returns
+returns c all are =
+    let x = c.args.self.now in
+    let s = x.script.now in
+    let h = get_or all c.args.number [] in
+    let lead = c.in_ok-turns.ensures s all are in
+    let leads = subst (λ (ts : List Turn). Lead s ts [] h) (sym c.as_slice.ensures.value) lead in
+    let start = subst (λ (w : List Watched). Stands s x.limit w [] c.in_ok-machine.machine) c.as_slice-watched.ensures.value c.in_ok-machine.ensures in
+    let size = lead_length s c.in_ok-turns.turns.items [] h lead in
+    let low = c.if-self-len.false in
+    let count = c.len.ensures in
+    let states = are.count in
+    let number = c.requires.number in
+    record { state = omega (arith, states, number); stands = c.in_ok-walk.ensures h leads start; short = omega (arith, size, low, count) }

@@ -1,0 +1,65 @@
+use Rattle.std.proofs.Common.{[], ap, false, get_or, length, refl, subst, sym, true, ◌∷◌, ◌∙◌, ◌≡◌}
+use Rattle.std.specs.Prelude.{List}
+use Rattle.nt_expect.specs.declared.expectations.Watched.{Watched}
+use Rattle.nt_search.specs.Machines.{IsRefused, IsTaken, Stands}
+use Rattle.nt_search.proofs.Leading.{uncut}
+use Rattle.nt_search.proofs.Machines.{came_length}
+use Rattle.nt_search.proofs.Trying.{none_tried, tried}
+use Rattle.nt_search.proofs.plan.Plan.try_next.Goals as goal
+
+pub take-requires : goal.take-requires
+take-requires c =
+    let x = c.args.self.now in
+    let at = c.requires.at.3 in
+    uncut x.script.now x.limit x.watched.items _ _ c.args.next.now at.stands at.short c.as_slice.ensures.value
+
+pub returns-then-not-branch : goal.returns-then-not-branch
+returns-then-not-branch c all h at next =
+    let x = c.args.self.now in
+    let s = x.script.now in
+    let past = get_or all c.args.from [] in
+    let e = c.as_slice.ensures.value in
+    let test = c.if-not-branch.true in
+    let q : c.in_ok-take.field-0 ≡ false = cc in
+    let old = subst (λ (w : List Watched). Stands s x.limit w past c.args.next.now) (sym e) next.stands in
+    let refused = c.in_ok-take.ensures.refused q s x.limit past old next.short in
+    none_tried x all c.args.found.now h c.args.from c.args.machine.now at c.args.turn.now c.take.new.self
+    (subst (λ (w : List Watched). IsRefused s x.limit w c.args.turn.now past c.take.new.self) e refused)
+
+pub judge_event-requires-clause-flags : goal.judge_event-requires-clause-flags
+judge_event-requires-clause-flags c =
+    let x = c.args.self.now in
+    came_length x.watched.items _ c.args.machine.now.came.items c.requires.at.2.stands.came
+    ∙ ap (λ (ws : List Watched). length ws) c.requires.plan.watched
+
+pub key-requires : goal.key-requires
+key-requires c =
+    let x = c.args.self.now in
+    let s = x.script.now in
+    let past = get_or c.requires.at.0 c.args.from [] in
+    let next = c.requires.at.3 in
+    let e = c.as_slice.ensures.value in
+    let test = c.if-not-branch.false in
+    let q : c.in_ok-take.field-0 ≡ true = cc in
+    let old = subst (λ (w : List Watched). Stands s x.limit w past c.args.next.now) (sym e) next.stands in
+    let taken = c.in_ok-take.ensures.taken q s x.limit past old next.short in
+    (s, x.limit, c.as_slice.result.now, c.take.new.self.event ∷ past, taken.stands)
+
+pub returns : goal.returns
+returns c all h at next =
+    let x = c.args.self.now in
+    let s = x.script.now in
+    let past = get_or all c.args.from [] in
+    let e = c.as_slice.ensures.value in
+    let test = c.if-not-branch.false in
+    let q : c.in_ok-take.field-0 ≡ true = cc in
+    let n = c.take.new.self in
+    let t = c.args.turn.now in
+    let old = subst (λ (w : List Watched). Stands s x.limit w past c.args.next.now) (sym e) next.stands in
+    let taken = subst (λ (w : List Watched). IsTaken s x.limit w t past n.event n) e (c.in_ok-take.ensures.taken q s x.limit past old next.short) in
+    let before = subst (λ (w : List Watched). Stands s x.limit w past c.args.machine.now) c.requires.plan.watched at.stands in
+    let after = subst (λ (w : List Watched). Stands s x.limit w (n.event ∷ past) n) c.requires.plan.watched taken.stands in
+    let judged = c.judge_event.ensures.judged s x.limit past before after in
+    let keyed = c.in_ok-key.ensures s x.limit x.watched.items (n.event ∷ past) taken.stands in
+    tried x all c.args.found.now h c.args.from c.args.machine.now at t n.event n taken _ c.judge_event.new.failures.items _ _ c.requires.plan refl refl
+    at.stands.took judged keyed refl refl _ c.in_ok-put.ensures refl

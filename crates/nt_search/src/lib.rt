@@ -1,0 +1,19 @@
+//! The search through all states of a script that some schedule comes to.
+#![tactic(auto)]
+
+mod expanding;
+mod failures;
+mod flags;
+mod found;
+mod judging;
+mod machine;
+mod plan;
+mod searching;
+mod states;
+mod stop;
+
+pub use failures::Failure;
+pub use found::Found;
+pub use searching::search;
+pub use states::{Key, States, Way};
+pub use stop::Stop;
