@@ -4,7 +4,8 @@ use Rattle.std.specs.Prelude.{◌<◌, ◌≡◌, ◌≢◌, ◌⊎◌}
 use Rattle.nt_words.specs.Forms.{names_live}
 use Rattle.nt_top.specs.declared.status.Status.{Status}
 use Rattle.nt_top.specs.declared.status.Status.TheVariants as exit
-use Rattle.nt_top.specs.Outcome.{HasCause, IsAnswered, Supply, memory_line, store, supply}
+use Rattle.nt_top.specs.Outcome.{HasCause, IsAnswered, memory_line}
+use Rattle.nt_outside.specs.Sides.{store, supply, Supply}
 use Rattle.nt_top.specs.Status.{status_number}
 use Rattle.nt_c.specs.Words.{AreWords}
 

@@ -4,3 +4,4 @@ pub mod Calls
 pub mod MemorySource
 pub mod MemorySink
 pub mod Streams
+pub mod Sides

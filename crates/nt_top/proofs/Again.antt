@@ -54,7 +54,8 @@ use Rattle.nt_top.specs.declared.task.Task.{Task}
 use Rattle.nt_top.specs.declared.task.Task.TheVariants as task
 use Rattle.nt_top.specs.Headline.{CheckCallsItLegal, ReplayWritesTheSame, checked_bytes, part_from, replayed_bytes, schedule_part}
 use Rattle.nt_top.specs.Runs.{IsReplayed}
-use Rattle.nt_top.specs.Outcome.{Gave, IsAnswered, IsDone, IsFound, IsFoundFrom, IsFoundIn, IsGiven, IsReport, IsWritten, Store, Supply, refused_in}
+use Rattle.nt_top.specs.Outcome.{Gave, IsAnswered, IsDone, IsFound, IsFoundFrom, IsFoundIn, IsGiven, IsReport, IsWritten, refused_in}
+use Rattle.nt_outside.specs.Sides.{Store, Supply}
 use Rattle.nt_top.specs.Tasks.{Bad, and_then, behind, input_of, reads, tail_task, tail_word, task_of, two_parts}
 use Rattle.nt_top.proofs.Causes.{causes, from_source, gave_told, same_task}
 use Rattle.nt_top.proofs.PlainTasks.{run_of_input, sound_task, task_plain}

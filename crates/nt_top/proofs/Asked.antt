@@ -11,7 +11,8 @@ use Rattle.nt_top.specs.declared.status.Status.{Status}
 use Rattle.nt_top.specs.declared.status.Status.TheVariants as exit
 use Rattle.nt_top.specs.declared.task.Task.{Task}
 use Rattle.nt_top.specs.Answer.{Asks, IsAnswerTo, text_of}
-use Rattle.nt_top.specs.Outcome.{Gave, IsAnswered, IsFound, IsFoundBy, IsFoundFrom, IsFoundIn, IsWritten, Store, Supply}
+use Rattle.nt_top.specs.Outcome.{Gave, IsAnswered, IsFound, IsFoundBy, IsFoundFrom, IsFoundIn, IsWritten}
+use Rattle.nt_outside.specs.Sides.{Store, Supply}
 use Rattle.nt_top.specs.Tasks.{asks_threads, is_threaded, reads}
 use Rattle.nt_top.proofs.Causes.{few_taken}
 use Rattle.nt_top.proofs.Found.{done_in, found_by}

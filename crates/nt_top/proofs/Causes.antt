@@ -19,7 +19,8 @@ use Rattle.nt_words.specs.Forms.{IsForm, WordsHaveOneForm}
 use Rattle.nt_words.specs.Refusals.{IsNoForm}
 use Rattle.nt_top.specs.declared.task.Task.{Task}
 use Rattle.nt_top.specs.declared.task.Task.TheVariants as task
-use Rattle.nt_top.specs.Outcome.{Supply, Store, Gave, IsFoundBy, IsFoundFrom, IsStarved, IsUnread, GoesWell, GoesWrong, IsGiven, IsFound, IsFoundIn, IsWell}
+use Rattle.nt_top.specs.Outcome.{Gave, IsFoundBy, IsFoundFrom, IsStarved, IsUnread, GoesWell, GoesWrong, IsGiven, IsFound, IsFoundIn, IsWell}
+use Rattle.nt_outside.specs.Sides.{Store, Supply}
 use Rattle.nt_top.specs.Outcome.{IsWritten, IsAnswered, HasCause, miss_in, missed, refusal, refusal_of, refused_in, refused_turn}
 use Rattle.nt_top.specs.Shrunk.{Found, bad_turn, delivered, found, no_goal, too_many, turn_in, undelivered}
 use Rattle.nt_top.specs.Tasks.{Bad, reads, task_of}

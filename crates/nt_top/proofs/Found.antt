@@ -17,7 +17,8 @@ use Rattle.nt_top.specs.declared.status.Status.TheVariants as exit
 use Rattle.nt_top.specs.declared.task.Task.{Task}
 use Rattle.nt_top.specs.declared.task.Task.TheVariants as task
 use Rattle.nt_top.specs.Answer.{IsIllegalLine, IsMade, IsReported, IsTurnRefused}
-use Rattle.nt_top.specs.Outcome.{Supply, IsFound, IsFoundBy, IsFoundFrom, refusal, refusal_of, refused_turn, IsDone, IsFoundIn, IsIllegal, IsRefused, IsRunOf}
+use Rattle.nt_top.specs.Outcome.{IsFound, IsFoundBy, IsFoundFrom, refusal, refusal_of, refused_turn, IsDone, IsFoundIn, IsIllegal, IsRefused, IsRunOf}
+use Rattle.nt_outside.specs.Sides.{Supply}
 use Rattle.nt_top.specs.Outcome.{IsWell}
 use Rattle.nt_top.specs.Tasks.{reads, input_of, task_of}
 

@@ -46,7 +46,8 @@ use Rattle.nt_top.specs.Audited.{IsAudited}
 use Rattle.nt_top.specs.Shrunk.{IsShrunkTo}
 use Rattle.nt_top.specs.Verified.{verify_text}
 use Rattle.nt_verify.specs.Laws.{CallsAreExpected, CleanScriptsRefuseNothing, OrderedScriptsSpinNowhere}
-use Rattle.nt_top.specs.Outcome.{Gave, IsFound, IsFoundBy, IsRunOf, IsWell, Store, Supply}
+use Rattle.nt_top.specs.Outcome.{Gave, IsFound, IsFoundBy, IsRunOf, IsWell}
+use Rattle.nt_outside.specs.Sides.{Store, Supply}
 use Rattle.nt_top.specs.Tasks.{Bad, and_then, input_of, limit_of, limited, migrated, task_of}
 use Rattle.nt_top.proofs.Done.{run_of}
 use Rattle.nt_top.proofs.Tasked.{IsCheck, IsRunTask, IsShrinkTask, check_is_one, live_is_a_run, replay_is_a_run, run_is_a_run, shrink_is_one}

@@ -5,7 +5,8 @@ use Rattle.nt_words.specs.declared.form.Form.{Form}
 use Rattle.nt_words.specs.declared.form.Form.TheVariants as form
 use Rattle.nt_top.specs.declared.status.Status.{Status}
 use Rattle.nt_top.specs.declared.status.Status.TheVariants as exit
-use Rattle.nt_top.specs.Outcome.{Supply, Store, IsFound, IsFoundBy, IsWritten}
+use Rattle.nt_top.specs.Outcome.{IsFound, IsFoundBy, IsWritten}
+use Rattle.nt_outside.specs.Sides.{Store, Supply}
 
 -- the text was added and the status is that of the answer
 pub written_whole : (status : Status) (text : List ℕ) (old new : Store) → status ≢ exit.Write → new.held ≡ append_known old.held text →

@@ -16,7 +16,8 @@ use Rattle.nt_top.specs.declared.answer.Text.TheVariants.{Line, Made}
 use Rattle.nt_top.specs.declared.status.Status.{Status}
 use Rattle.nt_top.specs.declared.status.Status.TheVariants as exit
 use Rattle.nt_top.specs.declared.task.Task.{Task}
-use Rattle.nt_top.specs.Outcome.{Gave, IsDone, IsFound, IsFoundBy, IsFoundFrom, IsFoundIn, Supply, illegal_line}
+use Rattle.nt_top.specs.Outcome.{Gave, IsDone, IsFound, IsFoundBy, IsFoundFrom, IsFoundIn, illegal_line}
+use Rattle.nt_outside.specs.Sides.{Supply}
 use Rattle.nt_top.specs.Outcome.{memory_line, turn_line}
 use Rattle.nt_top.specs.Tasks.{task_of}
 

@@ -46,7 +46,8 @@ use Rattle.nt_top.specs.declared.status.Status.TheVariants as exit
 use Rattle.nt_top.specs.declared.task.Tail.TheVariants as tail
 use Rattle.nt_top.specs.declared.task.Task.{Task}
 use Rattle.nt_top.specs.declared.task.Task.TheVariants as task
-use Rattle.nt_top.specs.Outcome.{Gave, IsAnswered, IsGiven, IsRunOf, Store, Supply, legal_line}
+use Rattle.nt_top.specs.Outcome.{Gave, IsAnswered, IsGiven, IsRunOf, legal_line}
+use Rattle.nt_outside.specs.Sides.{Store, Supply}
 use Rattle.nt_top.specs.Audited.{IsAudited}
 use Rattle.nt_top.specs.Runs.{IsRobinRun}
 use Rattle.nt_top.specs.Shrunk.{IsShrunkTo}

@@ -1,7 +1,7 @@
 -- What a call of the program finds out, what it writes, and when each status comes.
 use Rattle.std.specs.Prelude.{◌≡◌, ◌≢◌, ℕ, ◌+◌, ◌<◌, ◌≤◌, ◌⊎◌, true, IsSome, List, [], ◌∷◌, ◌++◌, length, Option, Some}
 use Rattle.std.specs.Prelude.{None, Result, Ok, Err, codes, decimal, reverse}
-use Rattle.std.specs.Io.KnownBytes.{append_known, prepend_known, IsAtEnd}
+use Rattle.std.specs.Io.KnownBytes.{append_known}
 use Rattle.nt_event.specs.declared.events.Event.{Event}
 use Rattle.nt_event.specs.declared.events.History.{History}
 use Rattle.nt_event.specs.Numbered.{schedule_name, schedule_number}
@@ -12,7 +12,8 @@ use Rattle.nt_script.specs.declared.walk.Input.{Input}
 use Rattle.nt_script.specs.Text.{text as script_text}
 use Rattle.nt_load.specs.Load.{load_input}
 use Rattle.nt_outside.specs.Bytes.{IsLonger, AddsFrontOf}
-use Rattle.nt_outside.specs.Counts.{counted, Rose, RoseBy}
+use Rattle.nt_outside.specs.Counts.{Rose, RoseBy}
+use Rattle.nt_outside.specs.Sides.{GaveWithin, Store, Supply}
 use Rattle.nt_print.specs.Report.{report_text}
 use Rattle.nt_print.specs.Summary.{summary_text}
 use Rattle.nt_text.specs.declared.kind.ScriptKind.{ScriptKind}
@@ -37,29 +38,9 @@ use Rattle.nt_shrink.specs.declared.goals.Goal.{Goal}
 
 -- ---- the outside, as a call finds or leaves it
 
--- a source: the bytes that are left, where it tells them, and its counts of bytes taken and of faults
-pub record Supply : Type 0 where
-  pub left : Option (List ℕ)
-  pub taken : ℕ
-  pub faults : ℕ
-
-abbrev pub supply : Option (List ℕ) → ℕ → ℕ → Supply
-supply left taken faults = record { left = left; taken = taken; faults = faults }
-
--- a sink: the bytes that it holds, where it tells them, and its count of faults
-pub record Store : Type 0 where
-  pub held : Option (List ℕ)
-  pub faults : ℕ
-
-abbrev pub store : Option (List ℕ) → ℕ → Store
-store held faults = record { held = held; faults = faults }
-
 -- the source gave these bytes, not too many, and is at its end
-pub record Gave (bytes : List ℕ) (old new : Supply) : Type 0 where
-  pub left : old.left ≡ prepend_known bytes new.left
-  pub end : IsAtEnd new.left
-  pub few : length bytes ≤ INPUT_LIMIT
-  pub taken : new.taken ≡ counted old.taken (length bytes)
+abbrev pub Gave : List ℕ → Supply → Supply → Type 0
+Gave = GaveWithin INPUT_LIMIT
 
 -- ---- the lines
 

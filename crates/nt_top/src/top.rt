@@ -2,7 +2,8 @@
 ghost use Rattle.std.specs.Prelude.{◌≡◌, ◌≢◌, IfOk, false, map, true, string_bytes};
 ghost use Rattle.nt_words.specs.Forms.{IsWithin, names_live};
 ghost use Rattle.nt_top.specs.Answer.{Asks, AsksBy, AsksFrom, text_of};
-ghost use Rattle.nt_top.specs.Outcome.{supply, store, memory_line, IsWritten, IsAnswered, HasCause};
+ghost use Rattle.nt_top.specs.Outcome.{memory_line, IsWritten, IsAnswered, HasCause};
+ghost use Rattle.nt_outside.specs.Sides.{store, supply};
 ghost use Rattle.nt_top.specs.Tasks.{IsSoundTask, reads};
 
 use crate::answer::{Answer, answer_alone, ask_in, line, loaded, no_memory};

@@ -1,7 +1,7 @@
 use Rattle.std.proofs.Common.{◌∙◌, ap}
 use Rattle.std.specs.Io.KnownBytes.{append_known}
 use Rattle.nt_top.specs.Answer.{text_of}
-use Rattle.nt_top.specs.Outcome.{store}
+use Rattle.nt_outside.specs.Sides.{store}
 use Rattle.nt_top.proofs.Written.{written_whole}
 use Rattle.nt_top.proofs.top.write.Goals as goal
 
