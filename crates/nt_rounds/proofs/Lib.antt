@@ -1,0 +1,4 @@
+pub mod Cutting
+pub mod Knowing
+pub mod Walking
+pub mod Going
