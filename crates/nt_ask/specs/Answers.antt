@@ -1,0 +1,109 @@
+-- What is written: what a search says of each expectation, or why an input is refused; and the exit statuses.
+use Rattle.std.specs.Prelude.{ℕ, ◌+◌, Bool, true, false, List, [], ◌∷◌, ◌++◌, codes, decimal, if◌then◌else◌}
+use Rattle.std.specs.List.{join_with_byte, list_any}
+use Rattle.nt_text.specs.declared.kind.ScriptKind.{ScriptKind}
+use Rattle.nt_text.specs.declared.kind.ScriptKind.TheVariants.{TooMany}
+use Rattle.nt_text.specs.Kinds.{kind_name, kind_number, thing_name}
+use Rattle.nt_line.specs.NameLists.{NameLists}
+use Rattle.nt_expect.specs.declared.expectations.Expectation.{Expectation}
+use Rattle.nt_expect.specs.declared.refusals.ExpectKind.{ExpectKind}
+use Rattle.nt_expect.specs.Expectations.{expectation_row}
+use Rattle.nt_expect.specs.Kinds.{expect_name, expect_number}
+use Rattle.nt_ask.specs.declared.answer.Answer.{Answer}
+use Rattle.nt_ask.specs.declared.answer.Status.{Status}
+use Rattle.nt_ask.specs.declared.answer.Status.TheVariants as exit
+use Rattle.nt_ask.specs.declared.answer.Verdict.{Verdict}
+use Rattle.nt_ask.specs.declared.answer.Verdict.TheVariants.{Holds, HoldsWithin, FailsAt, Unknown}
+use Rattle.nt_ask.specs.declared.reading.AskRefusal.{AskRefusal}
+use Rattle.nt_ask.specs.declared.reading.AskRefusal.TheVariants as refusal
+
+-- ---- the text of an answer
+
+-- what is said of an expectation
+abbrev pub verdict_text : Verdict → List ℕ
+verdict_text Holds = codes "holds"
+verdict_text (HoldsWithin events) = codes "holds within " ++ decimal events
+verdict_text (FailsAt event) = codes "fails at " ++ decimal event
+verdict_text Unknown = codes "unknown"
+
+-- the line of an expectation: its number, its text, and what the search says of it
+abbrev pub verdict_line : NameLists → ℕ → Expectation → Verdict → List ℕ
+verdict_line names number e v = decimal number ++ 32 ∷ (join_with_byte 32 (expectation_row names e)
+    ++ (codes ": " ++ (verdict_text v ++ 10 ∷ [])))
+
+-- a line for each expectation with its verdict, of which the first has this number
+abbrev pub verdict_lines : NameLists → ℕ → List Expectation → List Verdict → List ℕ
+verdict_lines names number [] vs = []
+verdict_lines names number (e ∷ es) [] = []
+verdict_lines names number (e ∷ es) (v ∷ vs) = verdict_line names number e v ++ verdict_lines names (number + 1) es vs
+
+-- how the first line ends, by whether not all states were found
+abbrev pub cut_text : Bool → List ℕ
+cut_text true = codes " cut\n"
+cut_text false = codes "\n"
+
+-- the first line: how many states were found, and how many events that lead from a state to a state
+abbrev pub states_line : Answer → List ℕ
+states_line a = codes "states " ++ (decimal a.states ++ (codes " edges " ++ (decimal a.edges ++ cut_text a.is_cut)))
+
+-- the whole text, with the expectations numbered from 1
+abbrev pub answer_text : NameLists → List Expectation → Answer → List ℕ
+answer_text names es a = states_line a ++ verdict_lines names 1 es a.verdicts.items
+
+-- ---- the line of a refusal
+
+-- a kind's name, for too many things with the thing behind it
+abbrev pub kind_text : ScriptKind → List ℕ
+kind_text (TooMany thing) = kind_name (TooMany thing) ++ 32 ∷ thing_name thing
+kind_text kind = kind_name kind
+
+-- the line of a refused script: the line that is bad, and the number and the text of what is wrong with it
+abbrev pub script_line : ℕ → ScriptKind → List ℕ
+script_line line kind = codes "script line "
+    ++ (decimal line ++ (codes ": " ++ (decimal (kind_number kind) ++ 32 ∷ (kind_text kind ++ 10 ∷ []))))
+
+-- the line of refused expectations
+abbrev pub expect_line : ℕ → ExpectKind → List ℕ
+expect_line line kind = codes "expect line "
+    ++ (decimal line ++ (codes ": " ++ (decimal (expect_number kind) ++ 32 ∷ (expect_name kind ++ 10 ∷ []))))
+
+-- what is written of an input that is not taken
+abbrev pub refusal_text : AskRefusal → List ℕ
+refusal_text (refusal.Script line kind) = script_line line kind
+refusal_text (refusal.Expect line kind) = expect_line line kind
+refusal_text refusal.NoMemory = codes "no memory\n"
+
+-- ---- the exit statuses
+
+-- the number that the program ends with
+abbrev pub status_number : Status → ℕ
+status_number exit.Ok = 0
+status_number exit.Usage = 1
+status_number exit.Refused = 2
+status_number exit.Read = 4
+status_number exit.Write = 5
+status_number exit.Memory = 6
+status_number exit.TooLong = 7
+status_number exit.Fails = 9
+status_number exit.Unknown = 10
+
+-- the expectation fails in a run
+abbrev pub is_failure : Verdict → Bool
+is_failure Holds = false
+is_failure (HoldsWithin events) = false
+is_failure (FailsAt event) = true
+is_failure Unknown = false
+
+-- nothing is known of the expectation
+abbrev pub is_unknown : Verdict → Bool
+is_unknown Holds = false
+is_unknown (HoldsWithin events) = false
+is_unknown (FailsAt event) = false
+is_unknown Unknown = true
+
+-- how the program ends, by what is said of the expectations: one fails; else something is not known of one; else all
+-- hold
+abbrev pub verdict_status : List Verdict → Status
+verdict_status vs =
+    if list_any is_failure vs then exit.Fails
+    else (if list_any is_unknown vs then exit.Unknown else exit.Ok)

@@ -1,0 +1,277 @@
+//! What a search says of expectations, its text, and how the program ends.
+ghost use Rattle.std.specs.Prelude.{◌+◌, ◌++◌, ◌≡◌, IfOk, OnOk, drop, length, string_bytes, true};
+ghost use Rattle.std.specs.List.{list_any};
+ghost use Rattle.nt_expect.specs.Expectations.{expectation_fits, expectations_fit};
+ghost use Rattle.nt_script.specs.Sound.{IsSound};
+ghost use Rattle.nt_ask.specs.Answers.{answer_text, cut_text, expect_line, is_failure, is_unknown};
+ghost use Rattle.nt_ask.specs.Answers.{kind_text, refusal_text, script_line, states_line};
+ghost use Rattle.nt_ask.specs.Answers.{status_number, verdict_line, verdict_lines};
+ghost use Rattle.nt_ask.specs.Answers.{verdict_status, verdict_text};
+
+use crate::reading::AskRefusal;
+use nt_expect::{ExpectKind, Expectation, put_expectation};
+use nt_script::{Input, ScriptKind};
+use nt_text::put_digits;
+use std::alloc::{AllocError, Global};
+
+/// What a search says of an expectation.
+#[derive(Clone, Copy, PartialEq, Eq, Debug)]
+pub enum Verdict {
+    /// It fails in no run.
+    Holds,
+    /// Every run ends, with at most so many events.
+    HoldsWithin(u32),
+    /// It fails in a run, and the event of this number shows it, or all events before it.
+    FailsAt(u32),
+    /// Nothing is known.
+    Unknown,
+}
+
+/// What a search says of all expectations.
+#[derive(Drop)]
+pub struct Answer {
+    /// How many states were found.
+    pub states: u32,
+    /// How many events were found that lead from a state to a state.
+    pub edges: u64,
+    /// Not all states were found.
+    pub is_cut: bool,
+    /// What is said of each expectation, in their order.
+    pub verdicts: Vec<Verdict>,
+}
+
+/// How the program ends.
+#[derive(Clone, Copy, PartialEq, Eq, Debug)]
+pub enum Status {
+    /// Each expectation holds.
+    Ok,
+    /// The words are no form of the command line.
+    Usage,
+    /// The input is refused.
+    Refused,
+    /// The source failed.
+    Read,
+    /// The sink failed.
+    Write,
+    /// There was not enough memory.
+    Memory,
+    /// The input has too many bytes.
+    TooLong,
+    /// An expectation fails in a run.
+    Fails,
+    /// None is known to fail, and nothing is known of one.
+    Unknown,
+}
+
+impl Status {
+    /// The number that the process ends with: as those of `ntrun`, but for 9 and 10.
+    pub fn number(self) -> u8
+        ensures { result ≡ status_number self }
+    {
+        match self {
+            Status::Ok => 0,
+            Status::Usage => 1,
+            Status::Refused => 2,
+            Status::Read => 4,
+            Status::Write => 5,
+            Status::Memory => 6,
+            Status::TooLong => 7,
+            Status::Fails => 9,
+            Status::Unknown => 10,
+        }
+    }
+}
+
+impl Verdict {
+    /// Whether the expectation fails in a run.
+    fn is_failure(self) -> bool
+        ensures { result ≡ is_failure self }
+    {
+        match self {
+            Verdict::Holds | Verdict::HoldsWithin(_) | Verdict::Unknown => false,
+            Verdict::FailsAt(_) => true,
+        }
+    }
+
+    /// Whether nothing is known of the expectation.
+    fn is_unknown(self) -> bool
+        ensures { result ≡ is_unknown self }
+    {
+        match self {
+            Verdict::Holds | Verdict::HoldsWithin(_) | Verdict::FailsAt(_) => false,
+            Verdict::Unknown => true,
+        }
+    }
+}
+
+/// Whether one of these expectations fails in a run.
+fn has_failure(verdicts: &[Verdict]) -> bool
+    ensures { result ≡ list_any is_failure verdicts.now }
+{
+    verdicts.iter().any(|verdict| verdict.is_failure())
+}
+
+/// Whether nothing is known of one of these expectations.
+fn has_unknown(verdicts: &[Verdict]) -> bool
+    ensures { result ≡ list_any is_unknown verdicts.now }
+{
+    verdicts.iter().any(|verdict| verdict.is_unknown())
+}
+
+/// How the program ends by what is said of the expectations: `Fails` where one fails in a run, else
+/// `Unknown` where nothing is known of one, else `Ok`.
+pub fn verdict_status(answer: &Answer) -> Status
+    ensures { result ≡ verdict_status answer.now.verdicts.items }
+{
+    let verdicts = answer.verdicts.as_slice();
+    if has_failure(verdicts) {
+        Status::Fails
+    } else if has_unknown(verdicts) {
+        Status::Unknown
+    } else {
+        Status::Ok
+    }
+}
+
+/// Adds what is said of an expectation.
+fn put_verdict(out: &mut Vec<u8>, verdict: Verdict) -> Result<(), AllocError>
+    ensures { OnOk result (out.new.items ≡ out.old.items ++ verdict_text verdict) }
+{
+    match verdict {
+        Verdict::Holds => out.extend_from_slice(b"holds"),
+        Verdict::HoldsWithin(events) => {
+            out.extend_from_slice(b"holds within ")?;
+            put_digits(out, u64::from(events))
+        }
+        Verdict::FailsAt(event) => {
+            out.extend_from_slice(b"fails at ")?;
+            put_digits(out, u64::from(event))
+        }
+        Verdict::Unknown => out.extend_from_slice(b"unknown"),
+    }
+}
+
+/// Adds the line of an expectation with its number and what is said of it.
+fn put_line(
+    out: &mut Vec<u8>,
+    input: &Input,
+    number: u64,
+    expectation: &Expectation,
+    verdict: Verdict,
+) -> Result<(), AllocError>
+    requires sound { IsSound input.now }
+    requires fits { expectation_fits input.now.script expectation.now ≡ true }
+    ensures { OnOk result (out.new.items ≡ out.old.items
+        ++ verdict_line input.now.names number expectation.now verdict) }
+{
+    put_digits(out, number)?;
+    out.push(b' ')?;
+    put_expectation(out, input, expectation)?;
+    out.extend_from_slice(b": ")?;
+    put_verdict(out, verdict)?;
+    out.push(b'\n')?;
+    Ok(())
+}
+
+/// Adds the line of each expectation.
+fn put_lines(
+    out: &mut Vec<u8>,
+    input: &Input,
+    expectations: &[Expectation],
+    verdicts: &[Verdict],
+) -> Result<(), AllocError>
+    requires sound { IsSound input.now }
+    requires fit { expectations_fit input.now.script expectations.now ≡ true }
+    requires all { length verdicts.now ≡ length expectations.now }
+    ensures { OnOk result (out.new.items ≡ out.old.items
+        ++ verdict_lines input.now.names 1 expectations.now verdicts.now) }
+{
+    for place in 0..expectations.len() {
+        let number = place as u64 + 1;
+        put_line(out, input, number, &expectations[place], verdicts[place])?;
+    }
+    Ok(())
+}
+
+/// How the first line ends.
+fn cut_text(is_cut: bool) -> &'static str
+    ensures { result.now ≡ cut_text is_cut }
+{
+    if is_cut { " cut\n" } else { "\n" }
+}
+
+/// Adds the first line.
+fn put_states(out: &mut Vec<u8>, answer: &Answer) -> Result<(), AllocError>
+    ensures { OnOk result (out.new.items ≡ out.old.items ++ states_line answer.now) }
+{
+    out.extend_from_slice(b"states ")?;
+    put_digits(out, u64::from(answer.states))?;
+    out.extend_from_slice(b" edges ")?;
+    put_digits(out, answer.edges)?;
+    out.extend_from_slice(cut_text(answer.is_cut).as_bytes())?;
+    Ok(())
+}
+
+/// The text of what a search says of expectations that name things of the input's script. An error
+/// is want of memory.
+pub fn print_answer(
+    alloc: Global,
+    input: &Input,
+    expectations: &[Expectation],
+    answer: &Answer,
+) -> Result<Vec<u8>, AllocError>
+    requires sound { IsSound input.now }
+    requires fit { expectations_fit input.now.script expectations.now ≡ true }
+    requires all { length answer.now.verdicts.items ≡ length expectations.now }
+    ensures { IfOk result (λ text. text.items
+        ≡ answer_text input.now.names expectations.now answer.now) }
+{
+    let mut out = Vec::new(alloc);
+    put_states(&mut out, answer)?;
+    put_lines(&mut out, input, expectations, answer.verdicts.as_slice())?;
+    Ok(out)
+}
+
+/// A kind as it is written: its name, for too many things with the thing behind it.
+fn kind_text(alloc: Global, kind: ScriptKind) -> Result<String, AllocError>
+    ensures { IfOk result (λ s. string_bytes s ≡ kind_text kind) }
+{
+    match kind {
+        ScriptKind::TooMany(thing) => format!(in alloc; "{} {}", kind.name(), thing.name()),
+        _ => String::from_str(alloc, kind.name()),
+    }
+}
+
+/// The line of a refused script.
+fn script_line(alloc: Global, line: u32, kind: ScriptKind) -> Result<String, AllocError>
+    ensures { IfOk result (λ s. string_bytes s ≡ script_line line kind) }
+{
+    let text = kind_text(alloc, kind)?;
+    format!(in alloc; "script line {line}: {} {text}\n", kind.number())
+}
+
+/// The line of refused expectations.
+fn expect_line(alloc: Global, line: u32, kind: ExpectKind) -> Result<String, AllocError>
+    ensures { IfOk result (λ s. string_bytes s ≡ expect_line line kind) }
+{
+    format!(in alloc; "expect line {line}: {} {}\n", kind.number(), kind.name())
+}
+
+/// The line of a refusal.
+fn refusal_line(alloc: Global, refusal: AskRefusal) -> Result<String, AllocError>
+    ensures { IfOk result (λ s. string_bytes s ≡ refusal_text refusal) }
+{
+    match refusal {
+        AskRefusal::Script { line, kind } => script_line(alloc, line, kind),
+        AskRefusal::Expect { line, kind } => expect_line(alloc, line, kind),
+        AskRefusal::NoMemory => String::from_str(alloc, "no memory\n"),
+    }
+}
+
+/// The line that is written of an input that is not taken. An error is want of memory.
+pub fn refusal_text(alloc: Global, refusal: AskRefusal) -> Result<Vec<u8>, AllocError>
+    ensures { IfOk result (λ text. text.items ≡ refusal_text refusal) }
+{
+    let line = refusal_line(alloc, refusal)?;
+    Ok(line.into_bytes())
+}
