@@ -1,0 +1,4 @@
+pub mod Leads
+pub mod Limits
+pub mod Machines
+pub mod Witnesses

@@ -1,0 +1,96 @@
+//! The worked row raise-queue-lower. Its first two turns are given, and the others are those of its
+//! report, which is worked by hand.
+ghost use Rattle.std.specs.Prelude.{◌≡◌, IfOk};
+ghost use Rattle.nt_rows.specs.RaiseQueueLower.{script as row};
+
+use crate::witness;
+use nt_event::{
+    Command, CpuNo, DpcDecl, DpcNo, Items, Level, Routine, RoutineNo, Script, ThreadDecl, ThreadNo,
+    Turn,
+};
+use nt_history::{Turns, no_turn};
+use std::alloc::{AllocError, Global};
+
+const SWITCH: Turn = Turn::Switch(CpuNo(0), ThreadNo(0));
+
+const NEXT: Turn = Turn::Next(CpuNo(0));
+
+/// The DPC's routine, and the thread's.
+fn routines(alloc: Global) -> Result<Items<Routine>, AllocError>
+    ensures { IfOk result (λ routines. routines ≡ row.routines) }
+{
+    let mut work = Items::new(alloc);
+    work.push(Command::Note(7))?;
+    let mut body = Items::new(alloc);
+    body.push(Command::Raise(Level::DISPATCH))?;
+    body.push(Command::Queue(DpcNo(0)))?;
+    body.push(Command::Lower(Level::PASSIVE))?;
+    let mut routines = Items::new(alloc);
+    routines.push(Routine { commands: work })?;
+    routines.push(Routine { commands: body })?;
+    Ok(routines)
+}
+
+/// The row's script: a thread raises its level, queues a DPC and lowers the level.
+fn script(alloc: Global) -> Result<Script, AllocError>
+    ensures { IfOk result (λ script. script ≡ row) }
+{
+    let mut dpcs = Items::new(alloc);
+    dpcs.push(DpcDecl {
+        threaded: false,
+        routine: RoutineNo(0),
+    })?;
+    let mut threads = Items::new(alloc);
+    threads.push(ThreadDecl {
+        cpu: CpuNo(0),
+        routine: RoutineNo(1),
+    })?;
+    let routines = routines(alloc)?;
+    Ok(Script {
+        cpus: 1,
+        depth: None,
+        threaded: None,
+        isrs: Items::new(alloc),
+        dpcs,
+        timers: Items::new(alloc),
+        threads,
+        apcs: Items::new(alloc),
+        routines,
+        locks: 0,
+    })
+}
+
+/// Whether the list is these turns.
+fn is_list(given: &Turns, wanted: &[Turn]) -> bool {
+    let mut walk = given.walk();
+    let mut turn = no_turn();
+    for other in wanted {
+        if !walk.next(&mut turn) || turn != *other {
+            return false;
+        }
+    }
+    !walk.next(&mut turn)
+}
+
+/// Nine more turns come, and then the processor rests.
+#[test]
+fn two_turns_are_completed(rt: HostRuntime) -> Result<(), AllocError> {
+    let script = script(rt.alloc())?;
+    let given = [SWITCH, NEXT];
+    let found = witness(rt.alloc(), &script, &given, false)?;
+    let wanted = [
+        SWITCH, NEXT, NEXT, NEXT, NEXT, NEXT, NEXT, NEXT, NEXT, NEXT, NEXT,
+    ];
+    assert!(rt; matches!(&found, Some(w) if w.turns == 10_000 && is_list(&w.list, &wanted)));
+    Ok(())
+}
+
+/// The processor is cut at once.
+#[test]
+fn an_endless_run_has_the_least_limit(rt: HostRuntime) -> Result<(), AllocError> {
+    let script = script(rt.alloc())?;
+    let given = [SWITCH, NEXT];
+    let found = witness(rt.alloc(), &script, &given, true)?;
+    assert!(rt; matches!(&found, Some(w) if w.turns == 2 && is_list(&w.list, &given)));
+    Ok(())
+}
