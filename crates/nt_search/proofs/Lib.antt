@@ -4,8 +4,10 @@ pub mod Machines
 pub mod FlagsNoted
 pub mod Judged
 pub mod Leading
+pub mod Noting
 pub mod Trying
 pub mod TryingMore
 pub mod Expanded
-pub mod Searched
+pub mod Progress
+pub mod Ending
 pub mod Verdict

@@ -1,15 +1,19 @@
 -- States that a list has, and one that is put to it.
-use Rattle.std.proofs.Common.{ap, append-nil, arith, inl, inr, subst, sym, ◌∙◌}
+use Rattle.std.proofs.Common.{ap, append-nil, arith, subst, sym, ◌∙◌}
 use Rattle.std.proofs.lemmas.List.{get_or-append-add, get_or_append_left, length-append}
 use Rattle.std.proofs.lemmas.Bool.{ltb-false, ltb-true}
-use Rattle.std.specs.List.{list_any}
-use Rattle.std.specs.Prelude.{Bool, IsTrue, List, Ok, [], false, get_or, length, nat_lt, refl, true, ℕ, ◌++◌, ◌+◌, ◌<◌, ◌∷◌, ◌≡◌}
+use Rattle.std.specs.List.{list_any, position_or_len}
+use Rattle.std.proofs.lemmas.List.Quantifiers.{position-Some}
+use Rattle.std.proofs.lemmas.List.Sums.{position_or_len_is}
+use Rattle.std.specs.Prelude.{Bool, Err, IfErr, IfOk, IsTrue, List, Ok, OnOk, Result, Some, [], false, get_or, length}
+use Rattle.std.specs.Prelude.{nat_lt, position, refl, suc, true, zero, ℕ, ◌++◌, ◌+◌, ◌<◌, ◌∷◌}
+use Rattle.std.specs.Prelude.{◌||◌, ◌≡◌}
 use Rattle.nt_event.specs.declared.events.Event.{Event}
 use Rattle.nt_event.specs.declared.scripts.Script.{Script}
 use Rattle.nt_event.specs.Script.{fits}
 use Rattle.nt_event.proofs.Options.{both}
 use Rattle.nt_alike.specs.Free.{free_step}
-use Rattle.nt_alike.specs.Lists.{Among, Each}
+use Rattle.nt_alike.specs.Lists.{Each}
 use Rattle.nt_alike.proofs.Compared.{declared_alike}
 use Rattle.nt_alike.proofs.Relation.{alike_self}
 use Rattle.nt_expect.specs.declared.expectations.Watched.{Watched}
@@ -24,8 +28,21 @@ use Rattle.nt_search.specs.declared.states.Key.{Key}
 use Rattle.nt_search.specs.declared.states.Way.{Way}
 use Rattle.nt_shows.specs.Tells.{AreCame, Tells}
 use Rattle.nt_search.specs.Keys.{AreKeys, IsKeyOf}
-use Rattle.nt_search.specs.States.{AreStates, Seen, are_equal, put}
+use Rattle.nt_search.specs.States.{AreStates, Seen, are_equal, number_in, put}
+use Rattle.nt_search.specs.Tried.{IsLikeOne}
 use Rattle.nt_search.specs.Ways.{AreWays, LeadsTo}
+
+-- what follows from what is so on success is so on success
+pub on_ok : {A B P Q : Type 0} → (r : Result A B) → (P → Q) → OnOk r P → OnOk r Q
+on_ok (Ok x) f p = f p
+on_ok (Err e) f p = tt
+
+pub if_ok : {A B : Type 0} {P Q : A → Type 0} → (r : Result A B) → ((x : A) → P x → Q x) → IfOk r P → IfOk r Q
+if_ok (Ok x) f p = f x p
+if_ok (Err e) f p = tt
+
+pub if_err : {A E : Type 0} → (P : E → Type 0) (r : Result A E) (y : E) → r ≡ Err y → P y → IfErr r P
+if_err P r y is p = rw is p
 
 -- where flags tell the same of two histories, the same came
 came_alike : (watched : List Watched) (h k : List Event) (flags : List Bool) → AreCame watched h flags → AreCame watched k flags →
@@ -44,22 +61,38 @@ module _ (s : Script) (watched : List Watched) (fit : IsTrue (fits s)) where
   keys_alike h k x y a b e =
       let parts = both _ _ e in
       let say = equal_say x.shade y.shade parts.0 in
-      let flags = lists_same flag_same x.came.items y.came.items parts.1 in
+      let flags = lists_same flag_same x.came.items y.came.items (both _ _ parts.1).0 in
       let alike = declared_alike s h k fit a.free b.free (same_alike s h k x.shade y.shade a.shade b.shade say) in
       (alike, came_alike watched h k y.came.items (subst (AreCame watched h) flags a.came) b.came)
 
-  -- where a key is there, one of the histories is alike
+  -- a state of a list has the next number in the list with one more before it
+  one_on : (k : List Event) (all : List (List Event)) (h : List Event) (n : ℕ) → IsLikeOne s watched all h n → IsLikeOne s watched (k ∷ all) h (1 + n)
+  one_on k all h n r =
+      let low = r.low in
+      let next : suc n ≡ 1 + n = omega arith in
+      record { low = omega (arith, low); alike = subst (λ (m : ℕ). AlikeWatching s watched h (get_or (k ∷ all) m [])) next r.alike }
+
+  -- where a key is there, the history is like that of the first key that is equal
   pub found : (h : List Event) (x : Key) (all : List (List Event)) (keys : List Key) → IsKeyOf s watched h x → AreKeys s watched all keys →
-      list_any (are_equal x) keys ≡ true → Among (AlikeWatching s watched h) all
+      list_any (are_equal x) keys ≡ true → IsLikeOne s watched all h (position_or_len (are_equal x) keys)
   found h x [] [] a are q = cc
   found h x [] (y ∷ keys) a are q = absurd are
   found h x (k ∷ all) [] a are q = absurd are
   found h x (k ∷ all) (y ∷ keys) a are q = go (are_equal x y) refl (found h x all keys a are.1)
     where
-      go : (b : Bool) → are_equal x y ≡ b → (list_any (are_equal x) keys ≡ true → Among (AlikeWatching s watched h) all) →
-          Among (AlikeWatching s watched h) (k ∷ all)
-      go true e ih = inl (keys_alike h k x y a are.0 e)
-      go false e ih = let rest = rw e at q in inr (ih rest)
+      go : (b : Bool) → are_equal x y ≡ b → (list_any (are_equal x) keys ≡ true → IsLikeOne s watched all h (position_or_len (are_equal x) keys)) →
+          IsLikeOne s watched (k ∷ all) h (position_or_len (are_equal x) (y ∷ keys))
+      go true e ih = rw e (record { low = omega arith; alike = keys_alike h k x y a are.0 e })
+      go false e ih =
+          let rest = rw e at q in
+          rw e (one_on k all h (position_or_len (are_equal x) keys) (ih rest))
+
+  -- there are as many keys as histories
+  pub keys_count : (all : List (List Event)) (keys : List Key) → AreKeys s watched all keys → length keys ≡ length all
+  keys_count [] [] are = refl
+  keys_count [] (y ∷ keys) are = absurd are
+  keys_count (k ∷ all) [] are = absurd are
+  keys_count (k ∷ all) (y ∷ keys) are = ap suc (keys_count all keys are.1)
 
   -- one key more, of one history more
   pub keys_more : (h : List Event) (x : Key) (all : List (List Event)) (keys : List Key) → IsKeyOf s watched h x → AreKeys s watched all keys →
@@ -69,10 +102,46 @@ module _ (s : Script) (watched : List Watched) (fit : IsTrue (fits s)) where
   keys_more h x (k ∷ all) [] a are = absurd are
   keys_more h x (k ∷ all) (y ∷ keys) a are = (are.0, keys_more h x all keys a are.1)
 
-  -- the last of a list is one of it
-  pub last_among : (h : List Event) (all : List (List Event)) → AlikeWatching s watched h h → Among (AlikeWatching s watched h) (all ++ h ∷ [])
-  last_among h [] a = inl a
-  last_among h (k ∷ all) a = inr (last_among h all a)
+-- a key that is not there has the next number
+pub next_number : (x : Key) (keys : List Key) → list_any (are_equal x) keys ≡ false → position_or_len (are_equal x) keys ≡ length keys
+next_number x [] q = refl
+next_number x (y ∷ keys) q = go (are_equal x y) refl (next_number x keys)
+  where
+    go : (b : Bool) → are_equal x y ≡ b → (list_any (are_equal x) keys ≡ false → position_or_len (are_equal x) keys ≡ length keys) →
+        position_or_len (are_equal x) (y ∷ keys) ≡ suc (length keys)
+    go true e ih = let rest = rw e at q in absurd (differ rest)
+      where
+        differ : true ≡ false → ⊥
+        differ r = cc
+    go false e ih =
+        let rest = rw e at q in
+        let same = ih rest in
+        let sum : 1 + position_or_len (are_equal x) keys ≡ suc (length keys) = omega (arith, same) in
+        rw e sum
+
+or_left : (a b : Bool) → a ≡ true → a || b ≡ true
+or_left true b q = refl
+or_left false b q = cc
+
+or_right : (a b : Bool) → b ≡ true → a || b ≡ true
+or_right true b q = refl
+or_right false b q = q
+
+-- a key that is equal to one at a place is there
+any_at : (x : Key) (keys : List Key) (i : ℕ) → i < length keys → are_equal x (get_or keys i x) ≡ true → list_any (are_equal x) keys ≡ true
+any_at x [] i low q = absurd (omega (arith, low))
+any_at x (y ∷ keys) zero low q = or_left (are_equal x y) (list_any (are_equal x) keys) q
+any_at x (y ∷ keys) (suc i) low q = or_right (are_equal x y) (list_any (are_equal x) keys) (any_at x keys i (omega (arith, low)) q)
+
+-- a key that has a number is there, and it is the number of the first key that is equal
+pub numbered : (x : Key) (keys : List Key) (i : ℕ) → position (are_equal x) keys ≡ Some i →
+    (list_any (are_equal x) keys ≡ true) × (i ≡ position_or_len (are_equal x) keys)
+numbered x keys i q =
+    let at = position-Some (are_equal x) keys i x q in
+    let low = at.0 in (
+      any_at x keys i at.0 at.1,
+      sym (position_or_len_is (are_equal x) keys i x (omega (arith, low)) at.2 (λ l. at.1)),
+    )
 
 -- ---- ways
 
@@ -81,7 +150,7 @@ module _ (s : Script) (all : List (List Event)) (ways : List Way) (h : List Even
   stays : (n : ℕ) → n < length all → get_or (all ++ h ∷ []) n [] ≡ get_or all n []
   stays n low = get_or_append_left all (h ∷ []) [] n low
 
-  at_end : get_or (all ++ h ∷ []) (length all) [] ≡ h
+  pub at_end : get_or (all ++ h ∷ []) (length all) [] ≡ h
   at_end =
       let here = get_or-append-add all (h ∷ []) 0 [] in
       let zero : length all + 0 ≡ length all = omega arith in
@@ -147,25 +216,38 @@ module _ (s : Script) (all : List (List Event)) (ways : List Way) (h : List Even
 
 -- ---- both
 
--- what putting a state leaves: the same states or one more, of which one is alike to the history
-pub record IsPut (s : Script) (watched : List Watched) (all : List (List Event)) (h : List Event) (x : Seen) : Type 0 where
+-- what putting a state leaves: the same states or one more, and the history is like that of this number
+pub record IsPut (s : Script) (watched : List Watched) (all : List (List Event)) (h : List Event) (number : ℕ) (x : Seen) : Type 0 where
   pub more : List (List Event)
   pub states : AreStates s watched (all ++ more) x
-  pub among : Among (AlikeWatching s watched h) (all ++ more)
+  pub like : IsLikeOne s watched (all ++ more) h number
 
 module _ (s : Script) (watched : List Watched) (all : List (List Event)) (x : Seen) (h : List Event) (key : Key) (way : Way) (fit : IsTrue (fits s))
     (are : AreStates s watched all x) (is : IsKeyOf s watched h key) where
-  pub is_put : IsNewWay s all x.ways h way are.ways → IsPut s watched all h (put key way x)
+  pub is_put : IsNewWay s all x.ways h way are.ways → IsPut s watched all h (number_in key x) (put key way x)
   is_put new = go (list_any (are_equal key) x.keys) refl
     where
       itself : AlikeWatching s watched h h
       itself = (alike_self s h, came_self watched h)
 
-      go : (b : Bool) → list_any (are_equal key) x.keys ≡ b → IsPut s watched all h (put key way x)
+      number : list_any (are_equal key) x.keys ≡ false → length all ≡ number_in key x
+      number q = sym (next_number key x.keys q ∙ keys_count s watched fit all x.keys are.keys)
+
+      size : length (all ++ h ∷ []) ≡ length all + 1
+      size = length-append all (h ∷ [])
+
+      last : IsLikeOne s watched (all ++ h ∷ []) h (length all)
+      last = record {
+        low = omega (arith, size);
+        alike = subst (AlikeWatching s watched h) (sym (at_end s all x.ways h way are.ways)) itself;
+      }
+
+      go : (b : Bool) → list_any (are_equal key) x.keys ≡ b → IsPut s watched all h (number_in key x) (put key way x)
       go true q = rw q (record {
         more = [];
         states = subst (λ (hs : List (List Event)). AreStates s watched hs x) (sym (append-nil all)) are;
-        among = subst (Among (AlikeWatching s watched h)) (sym (append-nil all)) (found s watched fit h key all x.keys is are.keys q);
+        like = subst (λ (hs : List (List Event)). IsLikeOne s watched hs h (number_in key x)) (sym (append-nil all))
+            (found s watched fit h key all x.keys is are.keys q);
       })
       go false q = rw q (record {
         more = h ∷ [];
@@ -173,5 +255,5 @@ module _ (s : Script) (watched : List Watched) (all : List (List Event)) (x : Se
           keys = keys_more s watched fit h key all x.keys is are.keys;
           ways = ways_more s all x.ways h way are.ways new;
         };
-        among = last_among s watched fit h all itself;
+        like = subst (IsLikeOne s watched (all ++ h ∷ []) h) (number q) last;
       })

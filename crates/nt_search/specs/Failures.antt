@@ -6,7 +6,9 @@ use Rattle.nt_event.specs.declared.scripts.Script.{Script}
 use Rattle.nt_alike.specs.Ends.{is_quiet}
 use Rattle.nt_alike.specs.Free.{MayCome, free_step}
 use Rattle.nt_expect.specs.declared.expectations.Expectation.{Expectation}
+use Rattle.nt_expect.specs.declared.expectations.Expectation.TheVariants.{AlwaysEnds}
 use Rattle.nt_expect.specs.Meaning.{ShowsAt, ShowsAtEnd}
+use Rattle.nt_verdict.specs.Fails.{Fails, IsShown}
 use Rattle.nt_search.specs.declared.failures.Failure.{Failure}
 
 -- after this past the turn gives an event which shows it, or where there is none, all is quiet and it shows so
@@ -31,6 +33,11 @@ pub record AreNoted (s : Script) (all : List (List Event)) (xs : List Expectatio
     Type 0 where
   pub count : length failures ≡ length xs
   pub each : (j : ℕ) (d : Expectation) → j < length xs → IsNoted s all (get_or xs j d) (get_or failures j None)
+
+-- the expectation fails in some run; for all but `always ends`, the event of this number shows it there, or the end of
+-- so many events
+abbrev pub FailsAt : Script → Expectation → ℕ → Type 0
+FailsAt s x number = Fails s x × ((x ≡ AlwaysEnds → ⊥) → (shown : IsShown s x) × (shown.number ≡ number))
 
 -- what holds of each expectation of which no failure is noted
 abbrev pub EachUnnoted : (Expectation → Type 0) → List Expectation → List (Option Failure) → Type 0

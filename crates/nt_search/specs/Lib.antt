@@ -2,6 +2,8 @@ pub mod Machines
 pub mod Keys
 pub mod Ways
 pub mod States
+pub mod Leads
 pub mod Tried
 pub mod Failures
+pub mod Ends
 pub mod Searches

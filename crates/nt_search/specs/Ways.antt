@@ -1,15 +1,11 @@
 -- How states were found: from which one, and by which turn.
+pub use Rattle.nt_witness.specs.Leads.{Lead}
 use Rattle.std.specs.Prelude.{List, Ok, [], get_or, length, ℕ, ◌<◌, ◌∷◌, ◌≡◌}
 use Rattle.nt_event.specs.declared.events.Event.{Event}
 use Rattle.nt_event.specs.declared.events.Turn.{Turn}
 use Rattle.nt_event.specs.declared.scripts.Script.{Script}
 use Rattle.nt_alike.specs.Free.{free_step}
 use Rattle.nt_search.specs.declared.states.Way.{Way}
-
--- taken one after another from this past on, the turns lead to the history
-abbrev pub Lead : Script → List Turn → List Event → List Event → Type 0
-Lead s [] past h = past ≡ h
-Lead s (t ∷ turns) past h = (e : Event) × (free_step s t past ≡ Ok e) × Lead s turns (e ∷ past) h
 
 -- the way leads from an earlier one of these histories to this one
 pub record LeadsTo (s : Script) (all : List (List Event)) (n : ℕ) (way : Way) : Type 0 where

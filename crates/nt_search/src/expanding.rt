@@ -1,9 +1,10 @@
 //! One state of a search is expanded: each turn that may be taken there is tried.
-ghost use Rattle.std.specs.Prelude.{◌≡◌, ◌<◌, ◌∷◌, [], List, OnOk, get_or, length};
+ghost use Rattle.std.specs.Prelude.{◌≡◌, ◌<◌, ◌∷◌, [], IfErr, IfOk, List, OnOk, false, get_or};
+ghost use Rattle.std.specs.Prelude.{length};
 ghost use Rattle.nt_event.specs.declared.events.Event.{Event as TheEvent};
 ghost use Rattle.nt_search.specs.Machines.{Stands};
-ghost use Rattle.nt_search.specs.Searches.{AreFound, AreTried, IsAt, IsEndNoted, IsExpanded};
-ghost use Rattle.nt_search.specs.Searches.{IsPlan};
+ghost use Rattle.nt_search.specs.Searches.{AreFound, AreTried, AreTriedAhead, IsAt, IsEndNoted};
+ghost use Rattle.nt_search.specs.Searches.{IsExpanded, IsPlan, IsStopped};
 ghost use Rattle.nt_search.specs.Ways.{Lead};
 
 use crate::failures::Failure;
@@ -12,9 +13,18 @@ use crate::judging::{judge_end, judge_event};
 use crate::machine::Machine;
 use crate::plan::Plan;
 use crate::states::Way;
+use crate::stop::Stop;
 use nt_ahead::turns_ahead;
 use nt_event::Turn;
 use std::alloc::{AllocError, Global};
+
+/// Whether the turn is a look at several classes at once.
+fn is_wide(turn: &Turn) -> bool {
+    match turn {
+        Turn::Look(_, rises) => rises.value.iter().filter(|value| **value != 0).count() > 1,
+        Turn::Next(_) | Turn::Switch(_, _) => false,
+    }
+}
 
 impl<'s> Plan<'s> {
     /// The machine takes these turns, which lead to the state of this number.
@@ -34,26 +44,35 @@ impl<'s> Plan<'s> {
     }
 
     /// The next machine, which stands as the machine does in the state of this number, takes the
-    /// turn. What comes of it is noted in what was found.
-    fn try_next(
+    /// turn. What comes of it is noted in what was found, the state with this mark. False where it
+    /// is refused: then the next machine stands there still.
+    pub(crate) fn try_next(
         &self,
         alloc: Global,
         machine: &Machine<'s>,
         next: &mut Machine<'s>,
         from: u32,
         turn: &Turn,
+        mark: u32,
         found: &mut Found,
-    ) -> Result<(), AllocError>
+    ) -> Result<bool, Stop>
         requires plan { IsPlan self.now }
         requires at { (all : List (List TheEvent)) × AreFound self.now all found.old ×
             IsAt self.now all from machine.now × IsAt self.now all from next.old }
-        ensures { OnOk result ((all : List (List TheEvent)) → AreFound self.now all found.old →
+        ensures tried { OnOk result ((all : List (List TheEvent)) →
+            AreFound self.now all found.old →
             IsAt self.now all from machine.now → IsAt self.now all from next.old →
             AreTried self.now all (get_or all from []) (turn.now ∷ []) found.old found.new) }
+        ensures refused { IfOk result (λ b. b ≡ false → (all : List (List TheEvent)) →
+            IsAt self.now all from next.old → IsAt self.now all from next.new) }
+        ensures stopped { IfErr result (λ stop. (all : List (List TheEvent)) →
+            AreFound self.now all found.old → IsAt self.now all from machine.now →
+            IsAt self.now all from next.old → IsStopped self.now all stop found.new) }
     {
         if !next.take(turn, self.watched.as_slice())? {
-            return Ok(());
+            return Ok(false);
         }
+        let key = next.key(alloc, mark)?;
         let failure = Failure {
             state: from,
             turn: Some(*turn),
@@ -67,54 +86,94 @@ impl<'s> Plan<'s> {
             failure,
             &mut found.failures,
         );
-        found.edges = found.edges.saturating_add(1);
-        found
-            .states
-            .put(next.key(alloc)?, Way { from, turn: *turn })?;
-        Ok(())
+        found.edges = found.edges.saturating_add(u64::from(!is_wide(turn)));
+        found.lead(key, Way { from, turn: *turn }, self.most)?;
+        Ok(true)
     }
 
-    /// Tries the turn from the state of this number, in which the machine stands.
+    /// Tries the turn from the state of this number, in which both machines stand, and the next one
+    /// again afterwards.
     fn try_turn(
         &self,
         alloc: Global,
         machine: &Machine<'s>,
+        next: &mut Machine<'s>,
         from: u32,
         turn: &Turn,
         found: &mut Found,
-    ) -> Result<(), AllocError>
+    ) -> Result<(), Stop>
         requires plan { IsPlan self.now }
         requires at { (all : List (List TheEvent)) × AreFound self.now all found.old ×
-            IsAt self.now all from machine.now }
-        ensures { OnOk result ((all : List (List TheEvent)) → AreFound self.now all found.old →
-            IsAt self.now all from machine.now →
+            IsAt self.now all from machine.now × IsAt self.now all from next.old }
+        ensures tried { OnOk result ((all : List (List TheEvent)) →
+            AreFound self.now all found.old →
+            IsAt self.now all from machine.now → IsAt self.now all from next.old →
             AreTried self.now all (get_or all from []) (turn.now ∷ []) found.old found.new) }
+        ensures next { OnOk result ((all : List (List TheEvent)) →
+            IsAt self.now all from machine.now → IsAt self.now all from next.old →
+            IsAt self.now all from next.new) }
+        ensures stopped { IfErr result (λ stop. (all : List (List TheEvent)) →
+            AreFound self.now all found.old → IsAt self.now all from machine.now →
+            IsAt self.now all from next.old → IsStopped self.now all stop found.new) }
     {
-        let mut next = machine.copy(alloc)?;
-        self.try_next(alloc, machine, &mut next, from, turn, found)?;
+        if self.try_next(alloc, machine, next, from, turn, 0, found)? {
+            next.renew(alloc, machine)?;
+        }
         Ok(())
     }
 
-    /// Tries each of these turns from the state of this number, in which the machine stands. What
-    /// comes of them is noted in what was found; after an error that is of no use.
+    /// Tries each of these turns from the state of this number, in which both machines stand. What
+    /// comes of them is noted in what was found.
     fn try_all(
         &self,
         alloc: Global,
         machine: &Machine<'s>,
+        next: &mut Machine<'s>,
         from: u32,
         turns: &[Turn],
         found: &mut Found,
-    ) -> Result<(), AllocError>
+    ) -> Result<(), Stop>
+        requires plan { IsPlan self.now }
+        requires at { (all : List (List TheEvent)) × AreFound self.now all found.old ×
+            IsAt self.now all from machine.now × IsAt self.now all from next.old }
+        ensures tried { OnOk result ((all : List (List TheEvent)) →
+            AreFound self.now all found.old →
+            IsAt self.now all from machine.now → IsAt self.now all from next.old →
+            AreTried self.now all (get_or all from []) turns.now found.old found.new) }
+        ensures stopped { IfErr result (λ stop. (all : List (List TheEvent)) →
+            AreFound self.now all found.old → IsAt self.now all from machine.now →
+            IsAt self.now all from next.old → IsStopped self.now all stop found.new) }
+    {
+        for place in 0..turns.len() {
+            self.try_turn(alloc, machine, next, from, &turns[place], found)?;
+        }
+        Ok(())
+    }
+
+    /// Tries each turn that may be taken from the state of this number, in which the machine
+    /// stands.
+    fn try_ahead(
+        &self,
+        alloc: Global,
+        machine: &Machine<'s>,
+        from: u32,
+        found: &mut Found,
+    ) -> Result<(), Stop>
         requires plan { IsPlan self.now }
         requires at { (all : List (List TheEvent)) × AreFound self.now all found.old ×
             IsAt self.now all from machine.now }
-        ensures { OnOk result ((all : List (List TheEvent)) → AreFound self.now all found.old →
+        ensures tried { OnOk result ((all : List (List TheEvent)) →
+            AreFound self.now all found.old →
             IsAt self.now all from machine.now →
-            AreTried self.now all (get_or all from []) turns.now found.old found.new) }
+            AreTriedAhead self.now all (get_or all from []) found.old found.new) }
+        ensures stopped { IfErr result (λ stop. (all : List (List TheEvent)) →
+            AreFound self.now all found.old → IsAt self.now all from machine.now →
+            IsStopped self.now all stop found.new) }
     {
-        for place in 0..turns.len() {
-            self.try_turn(alloc, machine, from, &turns[place], found)?;
-        }
+        let unnoticed = machine.unnoticed(alloc)?;
+        let turns = turns_ahead(alloc, self.script, &unnoticed)?;
+        let mut next = machine.copy(alloc)?;
+        self.try_all(alloc, machine, &mut next, from, turns.as_slice(), found)?;
         Ok(())
     }
 
@@ -140,25 +199,28 @@ impl<'s> Plan<'s> {
 
     /// Expands the state of this number, in which the machine stands: tries each turn that may be
     /// taken there. What comes of them is noted in what was found, and what the state shows where
-    /// all is quiet there. After an error what was found is of no use.
+    /// all is quiet there.
     pub(crate) fn expand(
         &self,
         alloc: Global,
         machine: &Machine<'s>,
         from: u32,
         found: &mut Found,
-    ) -> Result<(), AllocError>
+    ) -> Result<(), Stop>
         requires plan { IsPlan self.now }
         requires at { (all : List (List TheEvent)) × AreFound self.now all found.old ×
             IsAt self.now all from machine.now }
-        ensures { OnOk result ((all : List (List TheEvent)) → AreFound self.now all found.old →
-            IsAt self.now all from machine.now →
+        requires opened { found.old.graph.opened ≡ [] }
+        ensures expanded { OnOk result ((all : List (List TheEvent)) →
+            AreFound self.now all found.old → IsAt self.now all from machine.now →
             IsExpanded self.now all (get_or all from []) found.old found.new) }
+        ensures stopped { IfErr result (λ stop. (all : List (List TheEvent)) →
+            AreFound self.now all found.old → IsAt self.now all from machine.now →
+            IsStopped self.now all stop found.new) }
     {
         self.note_end(machine, from, found);
-        let unnoticed = machine.unnoticed(alloc)?;
-        let turns = turns_ahead(alloc, self.script, &unnoticed)?;
-        self.try_all(alloc, machine, from, turns.as_slice(), found)?;
+        self.try_ahead(alloc, machine, from, found)?;
+        found.graph.close()?;
         Ok(())
     }
 }

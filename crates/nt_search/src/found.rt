@@ -1,13 +1,74 @@
-//! What a search found so far.
-use crate::failures::Failure;
-use crate::states::States;
+//! What a search found.
+ghost use Rattle.std.specs.Prelude.{◌≡◌, ◌≤◌, ◌∷◌, [], IfErr, IfOk, None, OnOk, get_or, length};
+ghost use Rattle.std.specs.Prelude.{ℕ};
+ghost use Rattle.nt_search.specs.Leads.{IsHalfLed, led};
 
-/// What a search found.
+use crate::failures::{Failure, no_failures};
+use crate::states::{Key, States, Way};
+use crate::stop::Stop;
+use nt_rounds::{Depths, Graph};
+use std::alloc::{AllocError, Global};
+
+/// What a search found so far.
 #[derive(Drop)]
 pub struct Found {
     pub states: States,
-    /// How many events were found that lead from a state to a state.
+    /// Of each state that was expanded to which ones it leads.
+    pub graph: Graph,
+    /// How many turns were taken from the states, but for looks at several classes at once: those
+    /// lead where single looks lead one after another.
     pub edges: u64,
     /// Of each expectation where it shows that it fails, if it was found.
     pub failures: Vec<Option<Failure>>,
+}
+
+impl Found {
+    /// What is found at first: the state of no event alone, with this key, and no failure of any of
+    /// so many expectations.
+    pub(crate) fn new(alloc: Global, key: Key, way: Way, count: usize) -> Result<Found, AllocError>
+        ensures states { IfOk result
+            (λ f. f.states ≡ record { keys = key ∷ []; ways = way ∷ [] }) }
+        ensures graph { IfOk result (λ f. f.graph ≡ record { closed = []; opened = [] }) }
+        ensures count { IfOk result (λ f. length f.failures.items ≡ count) }
+        ensures none { IfOk result (λ f. (j : ℕ) → get_or f.failures.items j None ≡ None) }
+    {
+        let failures = no_failures(alloc, count)?;
+        let states = States::new(alloc, key, way)?;
+        Ok(Found {
+            states,
+            graph: Graph::new(alloc),
+            edges: 0,
+            failures,
+        })
+    }
+
+    /// Notes that the state that is being expanded leads to the one with this key, to which the way
+    /// leads. After an error the failures are as they were, and the states or one more.
+    pub(crate) fn lead(&mut self, key: Key, way: Way, most: u32) -> Result<(), Stop>
+        requires few { length self.old.states.ways ≤ most }
+        requires count { length self.old.states.keys ≡ length self.old.states.ways }
+        ensures led { OnOk result (self.new ≡ led key way self.old) }
+        ensures few { length self.new.states.ways ≤ most }
+        ensures err { IfErr result (λ stop. IsHalfLed key way most stop self.old self.new) }
+    {
+        let number = self.states.put(key, way, most)?;
+        self.graph.push(number)?;
+        Ok(())
+    }
+}
+
+/// How a search ended.
+#[derive(Drop)]
+pub enum End {
+    /// All states were found and expanded: how far each of them can go, or a round.
+    Whole(Depths),
+    /// It ended early.
+    Stopped(Stop),
+}
+
+/// What a search found, and how it ended.
+#[derive(Drop)]
+pub struct Searched {
+    pub found: Found,
+    pub end: End,
 }

@@ -13,7 +13,7 @@ mod states;
 mod stop;
 
 pub use failures::Failure;
-pub use found::Found;
+pub use found::{End, Found, Searched};
 pub use searching::search;
 pub use states::{Key, States, Way};
 pub use stop::Stop;

@@ -126,6 +126,16 @@ impl<'s> Machine<'s> {
         })
     }
 
+    /// Makes it a copy of this one. After an error it stands where it stood.
+    pub(crate) fn renew(&mut self, alloc: Global, from: &Machine<'s>) -> Result<(), AllocError>
+        ensures { OnOk result (
+            (s : TheScript) (limit : ℕ) (watched : List TheWatched) (past : List TheEvent) →
+            Stands s limit watched past from.now → Stands s limit watched past self.new) }
+    {
+        *self = from.copy(alloc)?;
+        Ok(())
+    }
+
     /// When the wait is due that the innermost frame of the turn's processor has to take up again.
     fn due_again(&self, turn: &Turn) -> Option<u64>
         ensures { (s : TheScript) (limit : ℕ) (watched : List TheWatched) (past : List TheEvent) →
@@ -208,8 +218,8 @@ impl<'s> Machine<'s> {
         Ok(unnoticed)
     }
 
-    /// What tells the state apart in which it stands.
-    pub(crate) fn key(&self, alloc: Global) -> Result<Key, AllocError>
+    /// What tells the state apart in which it stands, with this mark.
+    pub(crate) fn key(&self, alloc: Global, mark: u32) -> Result<Key, AllocError>
         requires { (s : TheScript) × (limit : ℕ) × (watched : List TheWatched) ×
             (past : List TheEvent) × Stands s limit watched past self.now }
         ensures { IfOk result (λ key.
@@ -219,6 +229,6 @@ impl<'s> Machine<'s> {
         let unnoticed = self.unnoticed(alloc)?;
         let shade = shade_of(alloc, &self.processors, &self.floor, &self.dpcs, &unnoticed)?;
         let came = self.came.to_vec(alloc)?;
-        Ok(Key { shade, came })
+        Ok(Key { shade, came, mark })
     }
 }

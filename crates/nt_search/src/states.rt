@@ -1,10 +1,13 @@
 //! The states that were found, each by what tells it apart.
-ghost use Rattle.std.specs.Prelude.{◌≡◌, ◌<◌, ◌∷◌, [], IfOk, List, OnOk, get_or, length};
+ghost use Rattle.std.specs.Prelude.{◌≡◌, ◌<◌, ◌≤◌, ◌∷◌, ◌++◌, [], IfErr, IfOk, List, OnErr, OnOk};
+ghost use Rattle.std.specs.Prelude.{false, get_or, length, position};
+ghost use Rattle.std.specs.List.{list_any};
 ghost use Rattle.nt_event.specs.declared.events.Event.{Event as TheEvent};
 ghost use Rattle.nt_event.specs.declared.scripts.Script.{Script as TheScript};
-ghost use Rattle.nt_search.specs.States.{put as put_in};
+ghost use Rattle.nt_search.specs.States.{IsPutStop, are_equal, number_in, put as put_in};
 ghost use Rattle.nt_search.specs.Ways.{AreWays, Lead};
 
+use crate::stop::Stop;
 use indexmap::IndexSet;
 use nt_event::Turn;
 use nt_shade::Shade;
@@ -18,6 +21,8 @@ pub struct Key {
     pub shade: Shade,
     /// In the order in which they are watched for.
     pub came: Vec<bool>,
+    /// What a search tells apart besides; 0 where it tells nothing apart.
+    pub mark: u32,
 }
 
 /// How a state was found first.
@@ -64,15 +69,61 @@ impl States {
         self.ways.len()
     }
 
-    /// Puts the state with this key, to which the way leads, behind the others, unless it is there.
-    /// After an error the states are of no use.
-    pub(crate) fn put(&mut self, key: Key, way: Way) -> Result<(), AllocError>
-        ensures { OnOk result (self.new ≡ put_in key way self.old) }
+    /// The number of the state with this key, if there is one.
+    fn number_of(&self, key: &Key) -> Option<usize>
+        ensures { result ≡ position (are_equal key.now) self.now.keys }
     {
-        if self.keys.insert(key)? {
-            self.ways.push(way)?;
-        }
+        self.keys.get_index_of(key)
+    }
+
+    /// Adds a state with this key, to which the way leads. After an error the states are as they
+    /// were.
+    fn add(&mut self, key: Key, way: Way) -> Result<(), AllocError>
+        requires { list_any (are_equal key) self.old.keys ≡ false }
+        ensures added { OnOk result (self.new
+            ≡ record { keys = self.old.keys ++ key ∷ []; ways = self.old.ways ++ way ∷ [] }) }
+        ensures err { OnErr result (self.new ≡ self.old) }
+    {
+        self.ways.reserve(1)?;
+        self.keys.insert(key)?;
+        self.ways.push(way)?;
         Ok(())
+    }
+
+    /// The number of a state with this key that is added, where there are fewer than so many.
+    fn add_within(&mut self, key: Key, way: Way, most: u32) -> Result<u32, Stop>
+        requires new { list_any (are_equal key) self.old.keys ≡ false }
+        requires few { length self.old.ways ≤ most }
+        ensures added { OnOk result (self.new
+            ≡ record { keys = self.old.keys ++ key ∷ []; ways = self.old.ways ++ way ∷ [] }) }
+        ensures number { IfOk result (λ n. n ≡ length self.old.ways) }
+        ensures within { OnOk result (length self.old.ways < most) }
+        ensures err { OnErr result (self.new ≡ self.old) }
+        ensures cause { IfErr result (IsPutStop most self.old) }
+    {
+        let number = self.ways.len();
+        if most as usize <= number {
+            return Err(Stop::States);
+        }
+        self.add(key, way)?;
+        Ok(number as u32)
+    }
+
+    /// The number of the state with this key. Where there is none, one is added, to which the way
+    /// leads, or there are so many that it may not be. After an error the states are as they were.
+    pub(crate) fn put(&mut self, key: Key, way: Way, most: u32) -> Result<u32, Stop>
+        requires few { length self.old.ways ≤ most }
+        requires count { length self.old.keys ≡ length self.old.ways }
+        ensures put { OnOk result (self.new ≡ put_in key way self.old) }
+        ensures number { IfOk result (λ n. n ≡ number_in key self.old) }
+        ensures few { length self.new.ways ≤ most }
+        ensures err { OnErr result (self.new ≡ self.old) }
+        ensures cause { IfErr result (IsPutStop most self.old) }
+    {
+        match self.number_of(&key) {
+            Some(number) => Ok(number as u32),
+            None => self.add_within(key, way, most),
+        }
     }
 
     /// The turns that lead to the state of this number from that of no event, in order.

@@ -1,6 +1,6 @@
 use Rattle.std.proofs.Common.{None, ap, get_or, length, ◌+◌, ◌∙◌}
 use Rattle.std.proofs.lemmas.List.{length-append}
-use Rattle.nt_search.proofs.Searched.{push_none}
+use Rattle.nt_search.proofs.Progress.{push_none}
 use Rattle.nt_search.proofs.failures.no_failures.Goals as goal
 
 pub loop-place-init : goal.loop-place-init

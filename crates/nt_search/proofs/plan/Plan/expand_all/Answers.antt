@@ -1,14 +1,37 @@
-use Rattle.std.proofs.Common.{arith, length, ◌<◌}
-use Rattle.nt_search.proofs.Searched.{ended, gone_on}
+use Rattle.std.proofs.Common.{[], arith, length, subst, sym, ◌<◌}
+use Rattle.std.proofs.lemmas.Result.{err_from_is_err_and}
+use Rattle.nt_search.specs.declared.stop.Stop.{Stop}
+use Rattle.nt_search.specs.Searches.{IsStopped}
+use Rattle.nt_search.proofs.Listing.{if_err}
+use Rattle.nt_search.proofs.Progress.{begun, ended, gone_on}
+use Rattle.nt_search.proofs.TryingMore.{stopped_more}
 use Rattle.nt_search.proofs.plan.Plan.expand_all.Goals as goal
 
-pub returns-then-len-number : goal.returns-then-len-number
-returns-then-len-number c =
-    let h = c.loop-number.invariant in
-    let count = h.found.states.ways.count in
+pub loop-number-init : goal.loop-number-init
+loop-number-init c = begun c.args.self.now c.args.found.now c.requires.start
+
+pub returns-then-len-number-clause-searched : goal.returns-then-len-number-clause-searched
+returns-then-len-number-clause-searched c =
     let len = c.len.ensures in
     let test = c.if-len-number.true in
-    ended c.args.self.now c.loop-number.found c.loop-number.number h (omega (arith, count, len, test))
+    ended c.args.self.now c.loop-number.found c.loop-number.number c.loop-number.invariant (omega (arith, len, test))
+
+pub expand_at-requires-clause-number : goal.expand_at-requires-clause-number
+expand_at-requires-clause-number c =
+    let len = c.len.ensures in
+    let test = c.if-len-number.false in
+    omega (arith, len, test)
+
+pub expand_at-requires-clause-at : goal.expand_at-requires-clause-at
+expand_at-requires-clause-at c = (c.loop-number.invariant.all, c.loop-number.invariant.found)
+
+pub returns-in_err-expand_at-clause-stopped : goal.returns-in_err-expand_at-clause-stopped
+returns-in_err-expand_at-clause-stopped c =
+    let h = c.loop-number.invariant in
+    let r = err_from_is_err_and c.from_residual.result c.from_residual.ensures.1 in
+    if_err _ c.from_residual.result r.0 r.1
+    (subst (λ (stop : Stop). IsStopped c.args.self.now [] stop c.expand_at.new.found) (sym r.2)
+    (stopped_more c.args.self.now [] h.all _ c.expand_at.new.found (c.in_err-expand_at.ensures.stopped h.all h.found)))
 
 pub loop-number-preserved : goal.loop-number-preserved
 loop-number-preserved c =
@@ -17,4 +40,11 @@ loop-number-preserved c =
     let len = c.len.ensures in
     let test = c.if-len-number.false in
     let low : c.loop-number.number < length h.all = omega (arith, count, len, test) in
-    gone_on c.args.self.now c.loop-number.found c.expand_at.new.found c.loop-number.number h low (c.in_ok-expand_at.ensures h.all h.found)
+    gone_on c.args.self.now c.loop-number.found c.expand_at.new.found c.loop-number.number h low (c.in_ok-expand_at.ensures.expanded h.all h.found)
+
+pub returns-clause-searched : goal.returns-clause-searched
+returns-clause-searched c =
+    let h = c.loop-number.invariant in
+    let few = h.found.few in
+    let test = c.loop-number-test.false in
+    ended c.args.self.now c.loop-number.found c.loop-number.number h (omega (arith, few, test))

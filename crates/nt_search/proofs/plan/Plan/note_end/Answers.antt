@@ -19,7 +19,7 @@ returns-then-settled c all h at =
     let m = c.args.machine.now in
     let settled = settled_is s x.limit x.watched.items past m true at.stands (sym (c.settled.ensures past at.stands.after) ∙ c.if-settled.true) in
     let stands = subst (λ (w : List Watched). Stands s x.limit w past m) c.requires.plan.watched at.stands in
-    at_end x all c.args.found.now h c.args.from m at _ _ settled refl refl at.stands.took (c.judge_end.ensures.judged s x.limit past stands) refl
+    at_end x all c.args.found.now h c.args.from m at _ _ settled refl refl at.stands.took (c.judge_end.ensures.judged s x.limit past stands) refl refl
 
 pub returns-else-settled : goal.returns-else-settled
 returns-else-settled c all h at =

@@ -1,7 +1,7 @@
 use Rattle.std.proofs.Common.{[], List, subst}
 use Rattle.nt_expect.specs.declared.expectations.Watched.{Watched}
 use Rattle.nt_search.specs.Machines.{Stands}
-use Rattle.nt_search.proofs.Searched.{start}
+use Rattle.nt_search.proofs.Progress.{start}
 use Rattle.nt_search.proofs.plan.Plan.start.Goals as goal
 
 pub returns : goal.returns
@@ -10,4 +10,5 @@ returns c =
     let s = x.script.now in
     let stands = subst (λ (w : List Watched). Stands s x.limit w [] c.in_ok-machine.machine) c.as_slice.ensures.value c.in_ok-machine.ensures in
     let keyed = c.in_ok-key.ensures s x.limit x.watched.items [] stands in
-    start x _ c.in_ok-key.key _ c.in_ok-new.ensures keyed c.in_ok-no_failures.ensures.count c.in_ok-no_failures.ensures.none
+    let new = c.in_ok-found.ensures in
+    start x _ c.in_ok-key.key _ c.requires.plan.most new.states new.graph keyed new.count new.none
