@@ -1,0 +1,17 @@
+use Rattle.std.proofs.Common.{refl, subst, sym, ◌≡◌}
+use Rattle.std.specs.Prelude.{List}
+use Rattle.nt_ask.specs.declared.answer.Status.{Status}
+use Rattle.nt_ask.specs.Answers.{answer_text}
+use Rattle.nt_expect.specs.declared.expectations.Expectation.{Expectation}
+use Rattle.nt_lab.specs.Outcome.{IsReplied}
+use Rattle.nt_lab.proofs.Said.{well_replied}
+use Rattle.nt_lab.proofs.asking.printed.Goals as goal
+
+pub returns-in-Ok : goal.returns-in-Ok
+returns-in-Ok c =
+    let asked = c.args.asked.now in
+    let answer = c.args.answer.now in
+    let text = c.in-Ok.text.items in
+    let written = subst (λ (xs : List Expectation). text ≡ answer_text asked.input.names xs answer) c.as_slice.ensures c.in-Ok.ensures in
+    subst (λ (status : Status). IsReplied asked status text) (sym c.verdict_status.ensures)
+    (well_replied asked answer.verdicts.items text (record { answer = answer; is = c.requires.is; written = written; ends = refl }))

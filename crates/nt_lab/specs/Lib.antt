@@ -1,0 +1,3 @@
+pub mod Verdicts
+pub mod Replies
+pub mod Outcome

@@ -1,0 +1,51 @@
+//! A status with the text that is written for it.
+ghost use Rattle.std.specs.Prelude.{◌≡◌};
+ghost use Rattle.nt_lab.specs.Replies.{memory_line, text_of};
+
+use nt_ask::Status;
+
+/// A text to be written.
+#[derive(Drop)]
+pub(crate) enum Text {
+    /// A line that never changes.
+    Line(&'static str),
+    /// A text that was made.
+    Made(Vec<u8>),
+}
+
+/// A status and the text that is written for it.
+#[derive(Drop)]
+pub(crate) struct Reply {
+    pub(crate) status: Status,
+    pub(crate) text: Text,
+}
+
+impl Text {
+    pub(crate) fn as_bytes(&self) -> &[u8]
+        ensures { result.now ≡ text_of self.now }
+    {
+        match self {
+            Text::Line(line) => line.as_bytes(),
+            Text::Made(text) => text.as_slice(),
+        }
+    }
+}
+
+/// A status with a line that never changes.
+pub(crate) fn line(status: Status, text: &'static str) -> Reply
+    ensures status { result.status ≡ status }
+    ensures text { text_of result.text ≡ text.now }
+{
+    Reply {
+        status,
+        text: Text::Line(text),
+    }
+}
+
+/// There is not enough memory.
+pub(crate) fn no_memory() -> Reply
+    ensures status { result.status ≡ Status.Memory }
+    ensures text { text_of result.text ≡ memory_line }
+{
+    line(Status::Memory, "no memory\n")
+}

@@ -1,0 +1,155 @@
+//! Whole answers over sources and sinks in memory: small scripts whose states are counted by hand,
+//! and what is refused.
+//!
+//! A function owns at most one value that is dropped, and ends once where it does.
+use crate::{Status, USAGE, ntlab};
+use nt_outside::{MemorySink, MemorySource};
+use std::alloc::{AllocError, Global};
+use std::test::Fail;
+
+/// A thread raises the level, inserts a DPC object and lowers the level, and the DPC runs before
+/// the thread goes on. There is one way to go on from each state.
+const RAISE_QUEUE_LOWER: &str = "\
+    cpus 1\ndpc d work\nthread main 0 body\nroutine work\nnote 7\nexit\n\
+    routine body\nraise 2\nqueue d\nlower 0\nexit\n";
+
+/// A DPC that inserts itself again and again. Its states are those after no event, the switch, the
+/// insert, the begin and the second insert; the end of the DPC leads back to the third.
+const SELF_QUEUING: &str = "\
+    cpus 1\ndpc d again\nthread main 0 body\nroutine again\nqueue d\nexit\n\
+    routine body\nqueue d\nexit\n";
+
+/// What the program answers and writes.
+type Found = (Status, Vec<u8>);
+
+/// What the program answers and writes over this source and this sink.
+fn found_over(
+    alloc: Global,
+    given: &[String],
+    source: &mut MemorySource,
+    sink: &mut MemorySink,
+) -> Result<Found, AllocError> {
+    let status = ntlab(alloc, given, source, sink);
+    Ok((status, sink.bytes().to_vec(alloc)?))
+}
+
+/// The same over a new sink.
+fn found_from(
+    alloc: Global,
+    given: &[String],
+    source: &mut MemorySource,
+) -> Result<Found, AllocError> {
+    let mut sink = MemorySink::new(alloc, 1_000_000, 16, Vec::new(alloc))?;
+    found_over(alloc, given, source, &mut sink)
+}
+
+/// The same of these bytes.
+fn found_of(alloc: Global, given: &[String], input: &[u8]) -> Result<Found, AllocError> {
+    let mut source = MemorySource::new(input.to_vec(alloc)?, 16, Vec::new(alloc));
+    found_from(alloc, given, &mut source)
+}
+
+/// Puts the words into the list.
+fn put_words(given: &mut Vec<String>, alloc: Global, words: &[&str]) -> Result<(), AllocError> {
+    for word in words {
+        given.push(String::from_str(alloc, word)?)?;
+    }
+    Ok(())
+}
+
+/// What the program answers and writes by these words.
+fn program(alloc: Global, words: &[&str], input: &[u8]) -> Result<Found, AllocError> {
+    let mut given = Vec::new(alloc);
+    put_words(&mut given, alloc, words)?;
+    found_of(alloc, given.as_slice(), input)
+}
+
+/// Whether the program answers this status and writes this text.
+fn gives(
+    alloc: Global,
+    words: &[&str],
+    input: &[u8],
+    status: Status,
+    text: &str,
+) -> Result<bool, AllocError> {
+    let found = program(alloc, words, input)?;
+    Ok(found.0 == status && found.1.as_slice() == text.as_bytes())
+}
+
+/// Whether of a script with these expectations this is answered.
+fn answers(
+    alloc: Global,
+    script: &str,
+    expected: &str,
+    status: Status,
+    text: &str,
+) -> Result<bool, AllocError> {
+    let mut input = script.as_bytes().to_vec(alloc)?;
+    input.extend_from_slice(expected.as_bytes())?;
+    gives(alloc, &["ask"], input.as_slice(), status, text)
+}
+
+#[test]
+fn each_expectation_has_its_line(rt: HostRuntime) -> Result<(), Fail> {
+    assert!(rt;
+        answers(
+            rt.alloc(),
+            RAISE_QUEUE_LOWER,
+            "expect\nnever begin dpc d before call queue d -> yes\nalways note 7\n\
+        never note 7 above 1\nalways ends\ndone\n",
+            Status::Fails,
+            "states 12 edges 11\n1 never begin dpc d before call queue d -> yes: holds\n\
+        2 always note 7: holds\n3 never note 7 above 1: fails at 5\n\
+        4 always ends: holds within 11\n",
+        )?
+    );
+    assert!(rt;
+        answers(
+            rt.alloc(),
+            SELF_QUEUING,
+            "expect\nnever refused\ndone\n",
+            Status::Ok,
+            "states 5 edges 5\n1 never refused: holds\n",
+        )?
+    );
+    Ok(())
+}
+
+#[test]
+fn a_run_that_never_ends_is_found(rt: HostRuntime) -> Result<(), Fail> {
+    assert!(rt;
+        answers(
+            rt.alloc(),
+            SELF_QUEUING,
+            "expect\nalways ends\ndone\n",
+            Status::Fails,
+            "states 5 edges 5\n1 always ends: fails at 5\n",
+        )?
+    );
+    Ok(())
+}
+
+#[test]
+fn what_is_no_question_is_refused(rt: HostRuntime) -> Result<(), Fail> {
+    let alloc = rt.alloc();
+    assert!(rt; gives(alloc, &["run"], b"", Status::Usage, USAGE)?);
+    assert!(rt;
+        gives(
+            alloc,
+            &["ask"],
+            b"cpus 0\n",
+            Status::Refused,
+            "script line 1: 5 BadNumber\n",
+        )?
+    );
+    assert!(rt;
+        answers(
+            alloc,
+            RAISE_QUEUE_LOWER,
+            "expect\nmaybe note 1\ndone\n",
+            Status::Refused,
+            "expect line 13: 2 UnknownWord\n",
+        )?
+    );
+    Ok(())
+}
