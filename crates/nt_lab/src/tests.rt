@@ -19,6 +19,24 @@ const SELF_QUEUING: &str = "\
     cpus 1\ndpc d again\nthread main 0 body\nroutine again\nqueue d\nexit\n\
     routine body\nqueue d\nexit\n";
 
+/// Worked examples, as in crates/machine_table/data: a DPC that is raised above, a DPC without a
+/// target on two processors, and a driver in use.
+const RAISED: &str = "\
+    cpus 1\ndpc work run\nthread main 0 body\nroutine run\nnote 7\nexit\nroutine body\n\
+    raise 2\nqueue work\nnote 1\nlower 0\nnote 2\nexit\n";
+
+const TWO_CPUS: &str = "\
+    cpus 2\ndpc work run\nthread a 0 ra\nthread b 1 rb\nroutine run\nnote 1\nnote 2\n\
+    note 3\nnote 4\nexit\nroutine ra\nqueue work\nexit\nroutine rb\nnote 8\nnote 9\n\
+    queue work\nexit\n";
+
+const WHOLE_REQUEST: &str = "\
+    cpus 2\nisr 0 5 device\ndpc done finish\ndpc late expired\ntimer limit late\n\
+    thread app 1 request\nspecial complete app signal\nroutine device\nqueue done\nexit\n\
+    routine finish\ncanceltimer limit\napc complete\nexit\nroutine expired\nnote 99\nexit\n\
+    routine signal\nrelease app\nexit\nroutine request\nsettimer limit 100 0\n\
+    interrupt 0 5\nwait kernel plain\nnote 1\nexit\n";
+
 /// What the program answers and writes.
 type Found = (Status, Vec<u8>);
 
@@ -149,6 +167,46 @@ fn what_is_no_question_is_refused(rt: HostRuntime) -> Result<(), Fail> {
             "expect\nmaybe note 1\ndone\n",
             Status::Refused,
             "expect line 13: 2 UnknownWord\n",
+        )?
+    );
+    Ok(())
+}
+
+#[test]
+fn worked_examples_are_answered(rt: HostRuntime) -> Result<(), Fail> {
+    let alloc = rt.alloc();
+    assert!(rt;
+        answers(
+            alloc,
+            RAISED,
+            "expect\nnever begin dpc work before note 1\nalways note 7\nnever note 7 above 2\ndone\n",
+            Status::Ok,
+            "states 14 edges 13\n1 never begin dpc work before note 1: holds\n\
+        2 always note 7: holds\n3 never note 7 above 2: holds\n",
+        )?
+    );
+    assert!(rt;
+        answers(
+            alloc,
+            WHOLE_REQUEST,
+            "expect\nnever note 99\nnever call canceltimer limit -> no\ndone\n",
+            Status::Ok,
+            "states 251 edges 529\n1 never note 99: holds\n\
+        2 never call canceltimer limit -> no: holds\n",
+        )?
+    );
+    Ok(())
+}
+
+#[test]
+fn one_dpc_runs_on_two_processors_at_once(rt: HostRuntime) -> Result<(), Fail> {
+    assert!(rt;
+        answers(
+            rt.alloc(),
+            TWO_CPUS,
+            "expect\nnever dpc work with dpc work\ndone\n",
+            Status::Fails,
+            "states 194 edges 360\n1 never dpc work with dpc work: fails at 7\n",
         )?
     );
     Ok(())
