@@ -179,7 +179,8 @@ fn worked_examples_are_answered(rt: HostRuntime) -> Result<(), Fail> {
         answers(
             alloc,
             RAISED,
-            "expect\nnever begin dpc work before note 1\nalways note 7\nnever note 7 above 2\ndone\n",
+            "expect\nnever begin dpc work before note 1\nalways note 7\n\
+        never note 7 above 2\ndone\n",
             Status::Ok,
             "states 14 edges 13\n1 never begin dpc work before note 1: holds\n\
         2 always note 7: holds\n3 never note 7 above 2: holds\n",
