@@ -7,6 +7,7 @@ use Rattle.std.specs.Prelude.{Bool, List, [], length, nat_lt, refl, replicate, s
 use Rattle.nt_event.specs.Lists.{value_at}
 use Rattle.nt_ahead.specs.Turns.{filled}
 
+-- each value of a list of zeros is zero, also after its end
 zeros : (n i : ℕ) → value_at (replicate n 0) i ≡ 0
 zeros zero i = refl
 zeros (suc n) zero = refl
@@ -18,9 +19,11 @@ behind [] n i = zeros n i
 behind (x ∷ xs) n zero = refl
 behind (x ∷ xs) n (suc i) = behind xs n i
 
+-- filling a look's values up with zeros changes the value of no class
 pub filled_reads : (vs : List ℕ) (c : ℕ) → value_at (filled vs) c ≡ value_at vs c
 filled_reads vs c = behind vs (16 - length vs) c
 
+-- a look of at most 16 values has exactly 16 once it is filled up
 pub filled_length : (vs : List ℕ) → length vs ≤ 16 → length (filled vs) ≡ 16
 filled_length vs l =
     let a = length-append vs (replicate (16 - length vs) 0) in

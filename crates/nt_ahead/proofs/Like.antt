@@ -69,6 +69,7 @@ zeros_good : (s : Script) (p : CpuNo) (c n : ℕ) (x : Own) (past : List Event) 
 zeros_good s p c zero x past = refl
 zeros_good s p c (suc n) x past = zeros_good s p (suc c) n x past
 
+-- good values of a look stay good with zeros put after them
 good_behind : (s : Script) (p : CpuNo) (c n : ℕ) (vs : List ℕ) (x : Own) (past : List Event) → good_rises s p c vs x past ≡ true →
     good_rises s p c (vs ++ replicate n 0) x past ≡ true
 good_behind s p c n [] x past g = zeros_good s p c n x past
@@ -78,6 +79,7 @@ good_behind s p c n (v ∷ vs) x past g =
     let rest = good_behind s p (suc c) n vs x past parts.1 in
     rw (parts.0, rest) refl
 
+-- a good look stays good if its values are filled up with zeros
 filled_good : (s : Script) (p : CpuNo) (vs : List ℕ) (x : Own) (past : List Event) → is_good_look s p vs x past ≡ true →
     is_good_look s p (filled vs) x past ≡ true
 filled_good s p vs x past g =
@@ -141,6 +143,7 @@ module _ (s : Script) (past : List Event) (turns : List Turn) (e : Event) (all :
       inside : (v w : What) → ◌≡◌ {A = Option What} (Some v) (Some w) → v ≡ w
       inside v w h = cc
 
+  -- where a list has all turns that may be taken, each event that may come has its turn there, or a like one
   pub has_turn : HasTurnOf s past turns e
   has_turn = go (turn_of e) refl
     where

@@ -56,6 +56,7 @@ module _ (s : Script) (p : CpuNo) (c : ℕ) where
       let b = newer_falls u v past h in
       omega (arith, a, b)
 
+  -- no event of a history asks by a value above the history's length or above any greater value
   pub newer_none : (v : ℕ) (past : List Event) → length past ≤ v → newer s p c v past ≡ 0
   newer_none v [] h = refl
   newer_none v (e ∷ past) h =
@@ -146,6 +147,7 @@ module _ (s : Script) (p : CpuNo) (c : ℕ) where
 
   -- ---- what was told was asked
 
+  -- the value that a lane tells for a class on a processor is zero, or was asked by an earlier event
   pub told_was : (x : Lane) (past : List Event) → (told_by s x p c past ≡ 0) ⊎ (was_asked s p c (told_by s x p c past) past ≡ true)
   told_was x [] = inl refl
   told_was x (e ∷ past) = go (touches s x e past) (asks s p c e past) refl (told_was x past)
@@ -209,10 +211,12 @@ module _ (s : Script) (p : CpuNo) (c : ℕ) where
   seen_other : (e : Event) (past : List Event) → is_of e p ≡ false → seen s p c (e ∷ past) ≡ seen s p c past
   seen_other e past h = rw h refl
 
+  -- after an event of the processor not asking for the class, it has seen what it saw, looked at or was told
   pub seen_quiet : (e : Event) (past : List Event) → is_of e p ≡ true → asks s p c e past ≡ false →
       seen s p c (e ∷ past) ≡ max (max (seen s p c past) (looked e.what c)) (told s p c e past)
   seen_quiet e past h a = seen_own e past h ∙ rw a refl
 
+  -- after an event of the processor that asks for the class itself, it has seen that very request
   pub seen_asking : (e : Event) (past : List Event) → is_of e p ≡ true → asks s p c e past ≡ true → seen s p c (e ∷ past) ≡ length past + 1
   seen_asking e past h a = seen_own e past h ∙ rw a refl
 
@@ -223,6 +227,7 @@ module _ (s : Script) (p : CpuNo) (c : ℕ) where
       go true = refl
       go false = refl
 
+  -- an event that does not ask for the class leaves the count of requests above a value as it was
   pub newer_quiet : (v : ℕ) (e : Event) (past : List Event) → asks s p c e past ≡ false → newer s p c v (e ∷ past) ≡ newer s p c v past
   newer_quiet v e past a = let z : 0 + newer s p c v past ≡ newer s p c v past = omega arith in rw a z
 

@@ -16,13 +16,16 @@ use Rattle.nt_alike.proofs.Monitors.{never_with}
 abbrev pub nothing : Monitor
 nothing n e = 0
 
+-- the monitor that keeps nothing keeps zero after each history
 keeps_nothing : (h : List Event) → kept nothing h ≡ 0
 keeps_nothing [] = refl
 keeps_nothing (e ∷ h) = refl
 
+-- histories that are alike are alike with the monitor that keeps nothing
 with_nothing : (s : Script) (h k : List Event) → Alike s h k → AlikeWith s nothing h k
 with_nothing s h k al = (al, keeps_nothing h ∙ sym (keeps_nothing k))
 
+-- a closed list is closed with the monitor that keeps nothing
 closed_with : (s : Script) (all : List (List Event)) → IsClosedList s all → IsClosedWith s nothing all
 closed_with s all closed =
     record {
@@ -41,6 +44,7 @@ closed_without s monitor all closed =
           (λ k to. (to.0, λ f m. among_map (λ x. AlikeWith s monitor (f ∷ k) x) (λ x. Alike s (f ∷ k) x) all (λ x l. l.0) (to.1 f m))) closed.each;
     }
 
+-- if no history of a closed list can go on by a bad event, no run of the script has one
 pub never_in_runs : (s : Script) (bad : Event → Bool) (all : List (List Event)) → IsClosedList s all → NoneShows s bad all →
     (limit : ℕ) (e : Event) (past : List Event) → IsRun s limit (e ∷ past) → LooksAreShort (e ∷ past) → bad (bare_event e) ≡ false
 never_in_runs s bad all closed none limit e past r l =

@@ -31,6 +31,7 @@ use Rattle.nt_alike.proofs.Asked.{newer_quiet}
 use Rattle.nt_alike.proofs.Declared.{nothing_beyond}
 use Rattle.nt_alike.proofs.Free.{run_free}
 
+-- true is not false
 clash : true ≡ false → ⊥
 clash q = cc
 
@@ -124,6 +125,7 @@ module _ (s : Script) (h k : List Event) (wh : AllStayWithin s h) (wk : AllStayW
         told = λ x p c. told_same x p c (has_lane s x) (has_cpu s p && is_used_class c) refl refl;
       }
 
+-- free runs alike in the declared processors, lanes, keys and classes are alike, if the script fits
 pub declared_alike : (s : Script) (h k : List Event) → fits s ≡ true → IsFreeRun s h → IsFreeRun s k → AlikeDeclared s h k → Alike s h k
 declared_alike s h k fit rh rk d = all_alike s h k (within h rh) (within k rk) d
   where

@@ -58,6 +58,7 @@ use Rattle.nt_alike.specs.Declared.{AllStayWithin, has_lane}
 
 -- ---- what a script that fits says of processors
 
+-- a conjunction of ten parts has a true first part if it is true
 first_of_ten : (a b c d e f g h i j : Bool) → (a && b && c && d && e && f && g && h && i && j) ≡ true → a ≡ true
 first_of_ten true b c d e f g h i j k = refl
 first_of_ten false b c d e f g h i j k = cc
@@ -398,5 +399,6 @@ module _ (s : Script) (fit : fits s ≡ true) where
         all_within past all.1,
       )
 
+-- each event of a run of a script that fits asks for and touches only what the script declares
 pub nothing_beyond : (s : Script) (limit : ℕ) (h : List Event) → fits s ≡ true → IsRun s limit h → AllStayWithin s h
 nothing_beyond s limit h fit r = all_within s fit h (events_of_a_run_fit s limit h fit r)

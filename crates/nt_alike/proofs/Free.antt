@@ -20,6 +20,7 @@ uncut true c r e h = h
 uncut false true r e h = cc
 uncut false false r e h = h
 
+-- a run at any limit is a free run, if each of its Looks has at most 16 values
 pub runs_free : (s : Script) (limit : ℕ) (h : List Event) → IsRun s limit h → LooksAreShort h → IsFreeRun s h
 runs_free s limit [] r l = tt
 runs_free s limit (e ∷ past) r l = (
@@ -40,12 +41,14 @@ made_length p (e ∷ past) = go (is_of e p) (made_length p past)
     go true h = omega (arith, h)
     go false h = omega (arith, h)
 
+-- an event that its turn gives freely is legal at each limit above the length of its past
 pub legal_free : (s : Script) (limit : ℕ) (e : Event) (past : List Event) → length past < limit → IsFreeStep s e past → IsLegal s limit e past
 legal_free s limit e past l h =
     let m = made_length (cpu_at (turn_of e)) past in
     let c : is_cut limit (own_of s (cpu_at (turn_of e)) past) ≡ false = lt-leb limit (made (cpu_at (turn_of e)) past) (omega (arith, l, m)) in
     rw c h
 
+-- a free run is a run at each limit that is at least its length
 pub run_free : (s : Script) (limit : ℕ) (h : List Event) → length h ≤ limit → IsFreeRun s h → IsRun s limit h
 run_free s limit [] l r = tt
 run_free s limit (e ∷ past) l r = (legal_free s limit e past (omega (arith, l)) r.0.0, run_free s limit past (omega (arith, l)) r.1)

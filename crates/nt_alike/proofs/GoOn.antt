@@ -36,6 +36,7 @@ use Rattle.nt_alike.proofs.Moves.{knows, names_inner}
 
 -- ---- what is known of a legal event
 
+-- an event that a processor's next step gives looks at no value of a class
 quiet : (w : What) (c : ℕ) → is_next w ≡ true → looked w c ≡ 0
 quiet (Look r) c h = cc
 quiet w c h = refl
@@ -44,6 +45,7 @@ quiet w c h = refl
 abbrev NoLook : What → Type 0
 NoLook w = (c : ℕ) → looked w c ≡ 0
 
+-- an event that may come names only the innermost frame of its processor
 inner_of : (s : Script) (limit : ℕ) (e : Event) (past : List Event) → IsLegal s limit e past → NamesInner e (frames_of s e.cpu past)
 inner_of s limit e past l = go e.what refl
   where
@@ -221,6 +223,7 @@ module _ (s : Script) (h k : List Event) (rh : IsFreeRun s h) (rk : IsFreeRun s 
       (λ i. none_or_asked s limit p h k rh2 rk2 al i (get_or c.0 i 0) k (c.3 i).found)
       (λ i. ap (λ (w : What). look_place s p i w h) n ∙ (c.3 i).place)
 
+  -- each event that may come after one of two free runs that are alike has its like after the other
   pub goes : (e : Event) → MayCome s e h → HasItsLike s e h k
   goes e m = go e.what refl m.1
     where

@@ -60,6 +60,7 @@ move_bare : (w : What) → lock_move w ≡ lock_move (bare_what w)
 move_bare (Call f c y) = refl
 move_bare w = refl
 
+-- what an event does to the lanes, but for numbers, does not depend on any number, where expiries are timely
 lanes_left : (s : Script) (n : ℕ) (st : Stand) (e : Event) (l : Lanes) → ((t : ThreadNo) → IsTimely t e.what (facts_at l t)) →
     bare_lanes (lanes_after s n st e l) ≡ lanes_after s 0 (bare_stand st) (bare_event e) (bare_lanes l)
 lanes_left s n st e l timely =
@@ -110,16 +111,19 @@ timely_there s limit e past r t = at (nat_lt t.0 (length s.threads)) refl
 
 -- ---- small questions by bare events
 
+-- whether an event is a Rest does not depend on its numbers
 rest_bare : (w : What) → is_rest w ≡ is_rest (bare_what w)
 rest_bare (Call f c y) = refl
 rest_bare w = refl
 
+-- what an event leaves to be fired does not depend on its numbers
 fire_bare : (s : Script) (w : What) (o : Option DpcNo) → fire_after s w o ≡ fire_after s (bare_what w) o
 fire_bare s (Call f c y) o = refl
 fire_bare s (Expire (TimerKeyOf t) from) o = refl
 fire_bare s (Expire (DelayKey t) from) o = refl
 fire_bare s w o = refl
 
+-- what an event leaves of the timer sweep does not depend on its numbers
 sweep_bare : (w : What) (b : Bool) → sweep_after w b ≡ sweep_after (bare_what w) b
 sweep_bare (Call f c y) b = refl
 sweep_bare (Begin (Int level) from) b = refl
@@ -128,6 +132,7 @@ sweep_bare (Begin (Threaded d) from) b = refl
 sweep_bare (Begin (Apc a) from) b = refl
 sweep_bare w b = refl
 
+-- whether an event serves a class does not depend on its numbers
 serves_bare : (c : ℕ) (w : What) → serves c w ≡ serves c (bare_what w)
 serves_bare c (Begin (Int level) from) = refl
 serves_bare c (Begin (Dpc d) from) = refl
@@ -136,12 +141,14 @@ serves_bare c (Begin (Apc a) from) = refl
 serves_bare c (Call f c2 y) = refl
 serves_bare c w = refl
 
+-- whether an event sets a timer does not depend on its numbers
 sets_bare : (t : TimerNo) (w : What) → sets_timer t w ≡ sets_timer t (bare_what w)
 sets_bare t (Call f c y) = refl
 sets_bare t (Expire (TimerKeyOf u) from) = refl
 sets_bare t (Expire (DelayKey u) from) = refl
 sets_bare t w = refl
 
+-- whether an event blocks in a delay does not depend on its numbers
 blocks_bare : (o : Option Again) (w : What) → blocks_delay o w ≡ blocks_delay o (bare_what w)
 blocks_bare o (Call f c y) = refl
 blocks_bare o w = refl
@@ -203,6 +210,7 @@ module _ (s : Script) (limit : ℕ) (h k : List Event) (e f : Event) (rh : IsRun
           ≡ level_in (frames_moved s None (record { cpu = q; thread = u; level = 0; what = v }) y)
       together a b c d = cc
 
+  -- the two next events of histories that are alike are the same but for numbers
   pub events_same : bare_event e ≡ bare_event f
   events_same = all same_cpus threads_same levels_same same_what
     where
@@ -400,5 +408,6 @@ module _ (s : Script) (limit : ℕ) (h k : List Event) (e f : Event) (rh : IsRun
           ∙ ap (sweep_after (bare_what f.what)) (ap (λ (x : Own). x.sweep) (al.own p)) ∙ sym (sweep_bare f.what (owes_sweep p k)) ∙ sym y) in
           fields (frames_now p b) seen_now r o m
 
+  -- histories that are alike stay alike after these two events
   pub alike_now : Alike s (e ∷ h) (f ∷ k)
   alike_now = record { lanes = lanes_now; order = order_now; own = own_now; asks = base_now; told = told_now }

@@ -15,15 +15,18 @@ found P Q [] X h k then = absurd k
 found P Q (x ∷ xs) X h (inl k) then = then x h.0 k
 found P Q (x ∷ xs) X h (inr k) then = found P Q xs X h.1 k then
 
+-- if a property holds of one of a list and implies another, the other holds of one of the list
 pub among_map : {S : Type 0} (P Q : S → Type 0) (all : List S) → ((x : S) → P x → Q x) → Among P all → Among Q all
 among_map P Q [] f k = k
 among_map P Q (x ∷ xs) f (inl k) = inl (f x k)
 among_map P Q (x ∷ xs) f (inr k) = inr (among_map P Q xs f k)
 
+-- if a property holds of each of a list and implies another, the other holds of each of the list
 pub each_map : {S : Type 0} (P Q : S → Type 0) (all : List S) → ((x : S) → P x → Q x) → Each P all → Each Q all
 each_map P Q [] f h = tt
 each_map P Q (x ∷ xs) f h = (f x h.0, each_map P Q xs f h.1)
 
+-- if two properties each hold of all of a list, both together hold of each of the list
 pub each_both : {S : Type 0} (P Q : S → Type 0) (all : List S) → Each P all → Each Q all → Each (λ x. P x × Q x) all
 each_both P Q [] h k = tt
 each_both P Q (x ∷ xs) h k = ((h.0, k.0), each_both P Q xs h.1 k.1)

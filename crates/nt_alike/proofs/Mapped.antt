@@ -7,11 +7,13 @@ use Rattle.std.specs.Option.{option_or}
 use Rattle.std.specs.Prelude.{Bool, List, None, Option, Some, [], cond, count_by, false, filter, find, length, map, option_map, refl, reverse, true, ◌∷◌, ◌≡◌}
 use Rattle.nt_runs.proofs.Pending.{find_reverse}
 
+-- the first present of two mapped optional values is the mapped first present one
 pub map_or : {A B : Type 0} (f : A → B) (a b : Option A) → option_or (option_map f a) (option_map f b) ≡ option_map f (option_or a b)
 map_or f None b = refl
 map_or f (Some x) b = refl
 
 module _ {A B : Type 0} (f : A → B) (p : A → Bool) (q : B → Bool) (same : (x : A) → q (f x) ≡ p x) where
+  -- filtering a mapped list is mapping the filtered list
   pub filter_map : (xs : List A) → filter q (map f xs) ≡ map f (filter p xs)
   filter_map [] = refl
   filter_map (x ∷ xs) = rw (same x) (go (p x) (filter_map xs))
@@ -25,6 +27,7 @@ module _ {A B : Type 0} (f : A → B) (p : A → Bool) (q : B → Bool) (same : 
   one x true = refl
   one x false = refl
 
+  -- the first element found in a mapped list is the mapped first element found in the list
   pub find_map : (xs : List A) → find q (map f xs) ≡ option_map f (find p xs)
   find_map [] = refl
   find_map (x ∷ xs) = rw (same x) (go (p x) (find_map xs))
@@ -34,14 +37,17 @@ module _ {A B : Type 0} (f : A → B) (p : A → Bool) (q : B → Bool) (same : 
       go true h = refl
       go false h = h
 
+  -- the test finds any element of a mapped list just where it finds one in the list
   pub any_map : (xs : List A) → list_any q (map f xs) ≡ list_any p xs
   any_map [] = refl
   any_map (x ∷ xs) = rw (same x, any_map xs) refl
 
+  -- as many elements are counted in a mapped list as in the list
   pub count_map : (xs : List A) → count_by q (map f xs) ≡ count_by p xs
   count_map xs =
       sym (length-filter q (map f xs)) ∙ ap length (filter_map xs) ∙ length-map (filter p xs) f ∙ length-filter p xs
 
+  -- the last element found in a mapped list is the mapped last element found in the list
   pub find_reverse_map : (xs : List A) → find q (reverse (map f xs)) ≡ option_map f (find p (reverse xs))
   find_reverse_map [] = refl
   find_reverse_map (x ∷ xs) =

@@ -36,6 +36,7 @@ module _ (s : Script) (monitor : Monitor) (all : List (List Event)) (closed : Is
       (leads_on s monitor all (λ x. Unit {0}) h k e r to.0 l
       (λ f m. among_map (λ x. AlikeWith s monitor (f ∷ k) x) (λ x. AlikeWith s monitor (f ∷ k) x × Unit {0}) all (λ x q. (q, tt)) (to.1 f m))))
 
+  -- if no history of a list closed with a monitor can go on by a bad event, no free run has one
   pub never_with : (bad : ℕ → Event → Bool) → NoneShowsWith s monitor bad all → (e : Event) (past : List Event) → IsFreeRun s (e ∷ past) →
       bad (kept monitor past) (bare_event e) ≡ false
   never_with bad none e past r =
@@ -48,6 +49,7 @@ module _ (s : Script) (monitor : Monitor) (all : List (List Event)) (closed : Is
       let o = goes s past k r.1 h.0.0 l.0 e r.0 in
       ap (λ (n : ℕ). bad n (bare_event e)) l.1 ∙ ap (bad (kept monitor k)) o.same ∙ h.1 o.event o.comes)
 
+  -- if no quiet history of a list closed with a monitor is bad, no quiet free run is bad
   pub never_at_end : (bad : ℕ → Bool) → Each (λ k. is_quiet s k ≡ true → bad (kept monitor k) ≡ false) all → (past : List Event) → IsFreeRun s past →
       is_quiet s past ≡ true → bad (kept monitor past) ≡ false
   never_at_end bad none past r q =

@@ -41,16 +41,19 @@ use Rattle.nt_alike.proofs.Frames.{NamesFrame, NamesInner, OfThread}
 
 -- ---- timers stand apart
 
+-- the facts of an optional thread do not depend on the timers
 facts_apart : (l : Lanes) (x : Timers) (t : Option ThreadNo) → facts_of l t ≡ facts_of (record l { timers = x }) t
 facts_apart l x None = refl
 facts_apart l x (Some t) = refl
 
+-- what the end of a body asks for does not depend on the timers
 end_apart : (st : Stand) (b : Option Body) (l : Lanes) (x : Timers) → end_asks st b l ≡ end_asks st b (record l { timers = x })
 end_apart st (Some (OnApc a NormalApc)) l x = refl
 end_apart st (Some (OnBase t)) l x =
     ap (λ (y : ThreadFacts). ask_if (some_came_to_0 st.regions st.below || has_kernel y.apcs) st.cpu 1) (facts_apart l x st.thread)
 end_apart st b l x = refl
 
+-- what an event asks for does not depend on the timers
 pub asks_apart : (s : Script) (st : Stand) (w : What) (l : Lanes) (x : Timers) → what_asks s st w l ≡ what_asks s st w (record l { timers = x })
 asks_apart s st (Call f (Queue d) Yes) l x = refl
 asks_apart s st (Call f (InsertApc a) Yes) l x = refl
@@ -68,12 +71,14 @@ asks_apart s st (Switch t status) l x = refl
 asks_apart s st (End f) l x = end_apart st st.body l x
 asks_apart s st w l x = refl
 
+-- the lanes that a command touches do not depend on the timers
 commands_apart : (s : Script) (p : CpuNo) (c : Command) (y : Reply) (l : Lanes) (x : Timers) →
     command_lanes s p c y l ≡ command_lanes s p c y (record l { timers = x })
 commands_apart s p (Queue d) y l x = refl
 commands_apart s p (Unqueue d) y l x = refl
 commands_apart s p c y l x = refl
 
+-- which lanes an event touches does not depend on the timers
 pub lanes_apart : (s : Script) (st : Stand) (w : What) (l : Lanes) (x : Timers) → what_lanes s st w l ≡ what_lanes s st w (record l { timers = x })
 lanes_apart s st (Call f c y) l x = ap (λ (xs : List Lane). if is_refused y then [] else xs) (commands_apart s st.cpu c y l x)
 lanes_apart s st (Fire d y) l x = refl
@@ -81,10 +86,12 @@ lanes_apart s st w l x = refl
 
 -- ---- in a run an event names the innermost frame
 
+-- a declared thread's part of the frames is that of the history
 part_there : (s : Script) (p : CpuNo) (t : ThreadNo) (past : List Event) → nat_lt t.0 (length s.threads) ≡ true →
     frames_in (frames_of s p past).threads t ≡ thread_frames s p t past
 part_there s p t past l = get_or-table {A = List Frame} (length s.threads) t.0 (λ t. thread_frames s p (thread t) past) [] (ltb-true t.0 (length s.threads) l)
 
+-- an undeclared thread has no part of the frames
 part_none : (s : Script) (p : CpuNo) (t : ThreadNo) (past : List Event) → nat_lt t.0 (length s.threads) ≡ false → frames_in (frames_of s p past).threads t ≡ []
 part_none s p t past l =
     let k = length-table_from {A = List Frame} 0 (length s.threads) (λ t. thread_frames s p (thread t) past) in
@@ -99,6 +106,7 @@ inner_own x m frame f i n h =
     same : (a b : Frame) → ◌≡◌ {A = Option Frame} (Some a) (Some b) → a ≡ b
     same a b q = cc
 
+-- the innermost frame's name is that of the running thread's head frame where the own part is empty
 inner_thread : (x : Frames) (t : ThreadNo) (fs : List Frame) (m : ℕ) (frame : Frame) → x.running ≡ Some t → frames_in x.threads t ≡ fs →
     innermost x ≡ Some frame →
     m ≡ frame.name → Apart x.own fs → OfThread (is_null x.own) m fs
@@ -126,6 +134,7 @@ inner_thread x t fs m frame r e i n a = go x.own refl a
 abbrev pub Knows : What → Frames → Type 0
 Knows w x = (m : ℕ) → NamesFrame m w → (f : Frame) × (innermost x ≡ Some f) × (m ≡ f.name)
 
+-- what a next event of the processor names is its innermost frame
 pub knows : (s : Script) (p : CpuNo) (x : Own) (l : Lanes) (w : What) → Known s p x l w → Knows w x.frames
 knows s p x l (Call n c y) k = λ m h. (k.frame, k.goes_on.inner, sym h ∙ k.name)
 knows s p x l (Rewait n y) k = λ m h. (k.frame, k.goes_on.inner, sym h ∙ k.name)
@@ -134,6 +143,7 @@ knows s p x l (End n) k = λ m h. (k.frame, k.goes_on.inner, sym h ∙ k.name)
 knows s p x l (Free n lock) k = λ m h. (k.frame, k.goes_on.inner, sym h ∙ k.name)
 knows s p x l w k = λ m h. absurd h
 
+-- the innermost frame that an event names is the first of the own part or of its thread's part
 pub names_inner : (s : Script) (p : CpuNo) (past : List Event) (e : Event) → Knows e.what (frames_of s p past) →
     (((m : ℕ) → NamesFrame m e.what → ⊥) ⊎ (e.thread ≡ running p past)) →
     NamesInner e (frames_of s p past)
@@ -167,6 +177,7 @@ names_inner s p past e k ours =
 
 -- ---- events made alike
 
+-- events that are the same but for numbers, of the same running thread, have the same thread field
 pub thread_same : (w v : What) (r q : Option ThreadNo) → bare_what w ≡ bare_what v → r ≡ q → thread_field w r ≡ thread_field v q
 thread_same w v r q h k = one w r ∙ ap (λ (z : What). thread_field z r) h ∙ ap (thread_field (bare_what v)) k ∙ sym (one v q)
   where
@@ -175,6 +186,7 @@ thread_same w v r q h k = one w r ∙ ap (λ (z : What). thread_field z r) h ∙
     one (Look x) r = refl
     one w r = refl
 
+-- events that are the same but for numbers, after frames of the same level, have the same level field
 pub level_same : (w v : What) (x y : Frames) → bare_what w ≡ bare_what v → level_in x ≡ level_in y → level_field w x ≡ level_field v y
 level_same w v x y h k = one w x ∙ ap (λ (z : What). level_of z (level_in x)) h ∙ ap (level_of (bare_what v)) k ∙ sym (one v y)
   where
@@ -186,6 +198,7 @@ level_same w v x y h k = one w x ∙ ap (λ (z : What). level_of z (level_in x))
     one (Look r) x = refl
     one w x = refl
 
+-- calls that are the same but for numbers, made at the same time, have the same due time
 pub due_same : (w v : What) (n m : ℕ) → bare_what w ≡ bare_what v → n ≡ m → due_of w n ≡ due_of v m
 due_same w v n m h k = one w n ∙ ap (λ (z : What). due_of z n) h ∙ ap (due_of (bare_what v)) k ∙ sym (one v m)
   where

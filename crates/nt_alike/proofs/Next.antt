@@ -143,6 +143,7 @@ module _ (s : Script) (h k : List Event) (al : Alike s h k) where
   parts_like : record (bare_lanes (lanes_at s h)) { timers = (lanes_at s h).timers } ≡ record (bare_lanes (lanes_at s k)) { timers = (lanes_at s h).timers }
   parts_like = ap (λ (l : Lanes). record l { timers = (lanes_at s h).timers }) al.lanes
 
+  -- the next event of a processor after histories that are alike is the same but for numbers
   pub next_like : (p : CpuNo) → option_map bare_what (next_what s p (own_of s p h) (lanes_at s h))
       ≡ option_map bare_what (next_what s p (own_of s p k) (lanes_at s k))
   next_like p =
@@ -155,6 +156,7 @@ module _ (s : Script) (h k : List Event) (al : Alike s h k) where
       together : {x y : Own} {l m : Lanes} → x ≡ y → l ≡ m → option_map bare_what (next_what s p x l) ≡ option_map bare_what (next_what s p y m)
       together a b = cc
 
+  -- a Switch to a given thread gives the same event, but for numbers, after histories that are alike
   pub switch_like : (p : CpuNo) (t : ThreadNo) →
       option_map bare_what (when (may_switch (own_of s p h)) (job_event s (stand_in p (own_of s p h)) (lanes_at s h) (SwitchJob t)))
       ≡ option_map bare_what (when (may_switch (own_of s p k)) (job_event s (stand_in p (own_of s p k)) (lanes_at s k) (SwitchJob t)))
@@ -214,6 +216,7 @@ module _ (s : Script) (limit : ℕ) (p : CpuNo) (h k : List Event) (rh : IsRun s
     pub zero : (v == 0) ≡ (w == 0)
     pub place : newer s p c (max (seen s p c h) v) h ≡ newer s p c (max (seen s p c k) w) k
 
+  -- a good value of a Look is zero or was asked by an earlier event
   pub none_or_asked : (c v : ℕ) (past : List Event) → Good c v past → (v ≡ 0) ⊎ (was_asked s p c v past ≡ true)
   none_or_asked c v past (inl z) = inl z
   none_or_asked c v past (inr y) = inr y.1

@@ -104,6 +104,7 @@ module _ (s : Script) (one : s.cpus ≡ 1) where
   ComesNext past f = (next_step s only (own_of s only past) (lanes_at s past) ≡ Ok f) ⊎
       ((u : ThreadNo) × (has_thread s u ≡ true) × (switch_step s only u (own_of s only past) (lanes_at s past) ≡ Ok f))
 
+  -- what may come after a free run on one processor is its next event or a Switch to a thread of the script
   pub comes : (past : List Event) (f : Event) → IsFreeRun s past → MayCome s f past → ComesNext past f
   comes past f r m = go f.what refl
     where

@@ -28,12 +28,14 @@ use Rattle.nt_alike.proofs.Jobs.{facts_read, queued_bare}
 use Rattle.nt_alike.proofs.Tasks.{rests_bare, spins_bare}
 use Rattle.nt_alike.proofs.Timers.{setting_read}
 
+-- each question about a state has the same answer after histories that are alike
 pub answers_same : (s : Script) (question : Question) (h k : List Event) → Alike s h k → answer s question h ≡ answer s question k
 answers_same s question h k al =
     ap (λ (xs : List Own). question xs (bare_lanes (lanes_at s h)))
     (table-same {A = Own} s.cpus (λ p. bare_own (own_of s (cpu p) h)) (λ p. bare_own (own_of s (cpu p) k)) (λ p l. al.own (cpu p)))
     ∙ ap (question (table s.cpus (λ p. bare_own (own_of s (cpu p) k)))) al.lanes
 
+-- whether a timer is set does not depend on the numbers of the settings
 set_bare : (x : Timers) (t : TimerNo) → is_set_timer (bare_timers x) t ≡ is_set_timer x t
 set_bare x t = ap is_some (setting_read x.timers t.0) ∙ is_some_map bare_setting (setting_in x.timers t.0)
 
@@ -51,6 +53,7 @@ module _ (s : Script) (h k : List Event) (al : Alike s h k) where
       ∙ ap (λ (x : ThreadFacts). is_inserted a x.apcs) (facts_same (owner_of s a))
       ∙ is_inserted_bare a (facts_at (lanes_at s k) (owner_of s a)).apcs
 
+  -- histories that are alike leave the same levels, threads, frames, objects, timers and locks, but for numbers
   pub stand_alike : StandAlike s h k
   stand_alike =
       record {

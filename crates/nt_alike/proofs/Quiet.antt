@@ -70,6 +70,7 @@ module _ (s : Script) (p : CpuNo) (c : ℕ) where
               below : (a b : ℕ) → a ≤ b → (a ≡ b → ⊥) → a < b
               below a b l d = grind (arith, l, d)
 
+-- of two free runs that are alike, both are quiet or neither is
 pub quiet_same : (s : Script) (h k : List Event) → IsFreeRun s h → IsFreeRun s k → Alike s h k → is_quiet s h ≡ is_quiet s k
 quiet_same s h k rh rk al = ap (list_all (λ q. q)) (table-same {A = Bool} s.cpus _ _ (λ p l. one (cpu p)))
   where

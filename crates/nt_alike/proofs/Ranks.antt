@@ -27,6 +27,7 @@ module _ (s : Script) (monitor : Monitor) (rank : Rank) (bound : ℕ) (all : Lis
       (λ x m. let l = m.1 in let b = fit.1 in (m.0, omega (arith, l, b)))
       (leads_on s monitor all (λ x. rank x < rank k) h k e r to.0 fit.0 to.1))
 
+  -- no run is longer than the bound of a ranked list, if each of its Looks has at most 16 values
   pub no_longer : (limit : ℕ) (past : List Event) → IsRun s limit past → LooksAreShort past → length past ≤ bound
   no_longer limit past r l =
       at_one (λ x. Fits past x) all (length past ≤ bound) (held past (runs_free s limit past r l)) (λ x m. let b = m.1 in omega (arith, b))

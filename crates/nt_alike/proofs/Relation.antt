@@ -13,9 +13,11 @@ use Rattle.nt_alike.specs.Alike.{Alike, SameOrder}
 use Rattle.nt_alike.specs.Bare.{bare_setting, bare_timers}
 use Rattle.nt_alike.proofs.Timers.{setting_read}
 
+-- two values that are equal as optional values are equal
 inside : {A : Type 0} (a b : A) → ◌≡◌ {A = Option A} (Some a) (Some b) → a ≡ b
 inside a b q = cc
 
+-- each history is like itself
 pub alike_self : (s : Script) (h : List Event) → Alike s h h
 alike_self s h =
     record {
@@ -47,12 +49,14 @@ set_there x y e a i h =
     some None q = cc
     some (Some m) q = (m, refl, sym (ap (λ (z : Setting). z.due) (inside (bare_setting m) (bare_setting i) q)))
 
+-- having keys of equal due time set in the same order is transitive, for timers equal but for numbers
 order_trans : (x y z : Timers) → bare_timers x ≡ bare_timers y → SameOrder x y → SameOrder y z → SameOrder x z
 order_trans x y z e p q a b i j k l ai bj ak bl dues =
     let m = set_there x y e a i ai in
     let n = set_there x y e b j bj in
     p a b i j m.0 n.0 ai bj m.1 n.1 dues ∙ q a b m.0 n.0 k l m.1 n.1 ak bl (sym m.2 ∙ dues ∙ n.2)
 
+-- if a history is like a second one and that is like a third, the first is like the third
 pub alike_trans : (s : Script) (g h k : List Event) → Alike s g h → Alike s h k → Alike s g k
 alike_trans s g h k a b =
     record {
@@ -63,6 +67,7 @@ alike_trans s g h k a b =
       told = λ x p c. a.told x p c ∙ b.told x p c;
     }
 
+-- having keys of equal due time set in the same order is symmetric, for timers equal but for numbers
 order_sym : (x y : Timers) → bare_timers x ≡ bare_timers y → SameOrder x y → SameOrder y x
 order_sym x y e p a b k l i j ak bl ai bj dues =
     let m = set_there x y e a i ai in
@@ -73,6 +78,7 @@ order_sym x y e p a b k l i j ak bl ai bj dues =
     let end : j.due ≡ l.due = n.2 ∙ ap (λ (z : Setting). z.due) ln in
     sym (p a b i j k l ai bj ak bl (due ∙ dues ∙ sym end))
 
+-- if a history is like another, the other is like it
 pub alike_sym : (s : Script) (h k : List Event) → Alike s h k → Alike s k h
 alike_sym s h k a =
     record {

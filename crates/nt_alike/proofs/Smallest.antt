@@ -30,6 +30,7 @@ next_one past f r m =
       | inr k ↦ absurd (let l = ltb-true k.0.0 0 k.1 in omega (arith, l))
     ]
 
+-- the history of one Rest is a free run of the smallest script
 rest_comes : IsFreeRun empty (rest ∷ [])
 unfolding table_from
 rest_comes = ((refl, tt), tt)
@@ -39,28 +40,34 @@ first_next : next_step empty only (own_of empty only []) (lanes_at empty []) ≡
 unfolding table_from
 first_next = refl
 
+-- after one Rest the smallest script's processor has nothing to do
 then_none : next_step empty only (own_of empty only (rest ∷ [])) (lanes_at empty (rest ∷ [])) ≡ Err NothingToDo
 unfolding table_from
 then_none = refl
 
+-- from the empty history of the smallest script only Rest may come
 from_opening : OnlyTo empty [] (rest ∷ [])
 from_opening f m = ap (λ (g : Event). g ∷ []) (same_ok (sym first_next ∙ next_one [] f tt m))
   where
     same_ok : {a b : Event} → ◌≡◌ {A = Result Event ScheduleKind} (Ok a) (Ok b) → b ≡ a
     same_ok h = cc
 
+-- after one Rest of the smallest script no event may come
 from_rest : ToNone empty (rest ∷ [])
 from_rest f m = clash (sym then_none ∙ next_one (rest ∷ []) f rest_comes m)
   where
     clash : ◌≡◌ {A = Result Event ScheduleKind} (Err NothingToDo) (Ok f) → ⊥
     clash h = cc
 
+-- the smallest script's histories are a line that goes to one Rest and ends there
 line : Line empty [] ((rest ∷ []) ∷ [])
 line = GoesTo tt from_opening (EndsAt rest_comes from_rest)
 
+-- the smallest script's histories are a closed list
 closed : IsClosedList empty histories
 closed = closed_without empty nothing histories (closed_of empty nothing _ 1 histories (line_ranked empty nothing 1 ((rest ∷ []) ∷ []) line (refl, tt)))
 
+-- whether an event is no Rest
 is_other : Event → Bool
 is_other e = not (is_rest e.what)
 
@@ -69,10 +76,12 @@ shows : List Event → Bool
 shows [] = false
 shows (e ∷ past) = is_other (bare_event e)
 
+-- no history of the smallest script goes on by an event other than Rest
 none_other : NoneShows empty is_other histories
 unfolding is_other shows
 none_other = none_found empty shows [] ((rest ∷ []) ∷ []) line (refl, tt)
 
+-- the smallest script's two histories are a closed list, and each event of its runs is Rest
 pub only_rests : OnlyRests
 unfolding is_other
 only_rests =

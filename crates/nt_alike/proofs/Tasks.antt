@@ -48,26 +48,32 @@ bare_task (Shared j) = Shared j
 
 -- ---- which classes are due
 
+-- one is above zero just where the condition holds that makes it one rather than zero
 one_due : (b : Bool) → nat_lt 0 (if b then 1 else 0) ≡ b
 one_due true = refl
 one_due false = refl
 
+-- whether one of the 16 classes is due does not depend on numbers
 pub due_bare : (x : Own) (c : ℕ) → c < 16 → is_due (bare_own x) c ≡ is_due x c
 due_bare x c h =
     let a = get_or-table {A = ℕ} 16 c (λ c. if is_due x c then 1 else 0) 0 h in
     let b = get_or-table {A = ℕ} 16 c (λ c. 0) 0 h in
     rw (a, b) (one_due (is_due x c))
 
+-- the level at which a processor stands does not depend on numbers
 level_same : (x : Own) → level_at (bare_own x) ≡ level_at x
 level_same x = level_bare x.frames
 
+-- whether an interrupt of a class may begin does not depend on numbers, for the first sixteen classes
 interrupt_bare : (x : Own) (c : ℕ) → c < 16 → may_interrupt (bare_own x) c ≡ may_interrupt x c
 interrupt_bare x c h = rw (level_same x, due_bare x c h) refl
 
+-- that each number of a list is below sixteen
 AllSmall : List ℕ → Type 0
 AllSmall [] = Unit {0}
 AllSmall (c ∷ cs) = (c < 16) × AllSmall cs
 
+-- the first class of a list that may interrupt is the same without numbers, if all are small
 found_bare : (x : Own) (cs : List ℕ) → AllSmall cs → find (may_interrupt (bare_own x)) cs ≡ find (may_interrupt x) cs
 unfolding AllSmall
 found_bare x [] h = refl
@@ -79,9 +85,11 @@ unfolding AllSmall
 all_small [] h = tt
 all_small (c ∷ cs) h = let k = both (nat_lt c 16) (list_all (λ c. nat_lt c 16) cs) h in (ltb-true c 16 k.0, all_small cs k.1)
 
+-- each interrupt class is below sixteen
 small_classes : AllSmall interrupt_classes
 small_classes = all_small interrupt_classes refl
 
+-- the begin of an optional interrupt class is, but for its number, the same without numbers
 begun_or : (x : Own) (o : Option ℕ) →
     option_map bare_task (option_map (λ c. Alone (Begin (Int c) (value_at x.seen c - 1))) o)
     ≡ option_map bare_task (option_map (λ c. Alone (Begin (Int c) (value_at (bare_own x).seen c - 1))) o)
@@ -90,33 +98,41 @@ begun_or x (Some c) = refl
 
 -- ---- what must be done
 
+-- the first of two optional tasks is, but for numbers, that of two others if each is like its other
 or_task : (a b c d : Option Task) → option_map bare_task a ≡ option_map bare_task c → option_map bare_task b ≡ option_map bare_task d →
     option_map bare_task (option_or a b) ≡ option_map bare_task (option_or c d)
 or_task a b c d h k =
     sym (map_or bare_task a b) ∙ ap (λ (o : Option Task). option_or o (option_map bare_task b)) h
     ∙ ap (λ (o : Option Task). option_or (option_map bare_task c) o) k ∙ map_or bare_task c d
 
+-- an optional task kept under a test is, but for numbers, the same under an equal test
 when_task : (a b : Bool) (o : Option Task) → a ≡ b → option_map bare_task (when a o) ≡ option_map bare_task (when b o)
 when_task a b o h = ap (λ (c : Bool). option_map bare_task (when c o)) h
 
+-- whether a processor may drain its DPC queue does not depend on numbers
 drain_same : (x : Own) → may_drain x ≡ may_drain (bare_own x)
 drain_same x = let d = due_bare x 2 (omega arith) in rw (level_same x, d) refl
 
+-- whether a processor stands on a thread does not depend on the names of its frames
 on_thread_bare : (x : Frames) → is_on_thread (bare_frames x) ≡ is_on_thread x
 on_thread_bare x = rw (null_map x.own, part_bare x, null_map (thread_part x)) refl
 
+-- whether a processor may deliver APCs does not depend on numbers
 apcs_same : (x : Own) → may_apcs x ≡ may_apcs (bare_own x)
 apcs_same x = let d = due_bare x 1 (omega arith) in rw (level_same x, d, on_thread_bare x.frames) refl
 
+-- whether a processor may run threaded DPCs does not depend on numbers
 threaded_same : (x : Own) → may_threaded x ≡ may_threaded (bare_own x)
 threaded_same x = let d = due_bare x 0 (omega arith) in rw (level_same x, d, null_map x.frames.own) refl
 
+-- the task of beginning an interrupt does not depend on numbers, but for its own
 interrupts_bare : (x : Own) → option_map bare_task (interrupt_task x) ≡ option_map bare_task (interrupt_task (bare_own x))
 interrupts_bare x =
     begun_or x (find (may_interrupt x) interrupt_classes)
     ∙ ap (λ (o : Option ℕ). option_map bare_task (option_map (λ c. Alone (Begin (Int c) (value_at (bare_own x).seen c - 1))) o))
     (sym (found_bare x interrupt_classes small_classes))
 
+-- the task that a processor must do does not depend on numbers, but for its own
 must_bare : (x : Own) → option_map bare_task (must_task x) ≡ option_map bare_task (must_task (bare_own x))
 must_bare x =
     or_task (fire_task x) _ (fire_task (bare_own x)) _ refl
@@ -125,28 +141,34 @@ must_bare x =
     (or_task (when (may_apcs x) (Some (Shared ApcsJob))) _ (when (may_apcs (bare_own x)) (Some (Shared ApcsJob))) _ (when_task _ _ _ (apcs_same x))
     (when_task _ _ (Some (Shared ThreadedJob)) (threaded_same x)))))
 
+-- of two optional tasks that are the same but for numbers, both are there or neither
 is_some_task : (a b : Option Task) → option_map bare_task a ≡ option_map bare_task b → is_some a ≡ is_some b
 is_some_task None None h = refl
 is_some_task (Some x) (Some y) h = refl
 is_some_task None (Some y) h = cc
 is_some_task (Some x) None h = cc
 
+-- whether a processor must do a task does not depend on numbers
 is_must_bare : (x : Own) → must x ≡ must (bare_own x)
 is_must_bare x = is_some_task (must_task x) (must_task (bare_own x)) (must_bare x)
 
+-- whether a processor may switch depends on no number that it keeps
 pub may_switch_bare : (x : Own) → may_switch x ≡ may_switch (bare_own x)
 may_switch_bare x = rw (is_must_bare x, null_map x.frames.own) refl
 
+-- whether a processor rests depends on no number that it keeps
 pub rests_bare : (x : Own) → rests x ≡ rests (bare_own x)
 rests_bare x = rw (is_must_bare x) refl
 
 -- ---- it waits for a lock
 
+-- whether an optional frame spins does not depend on its name
 spins_or : (o : Option Frame) → option_map_or (λ (f : Frame). is_some f.spin) (option_map bare_frame o) false
     ≡ option_map_or (λ (f : Frame). is_some f.spin) o false
 spins_or None = refl
 spins_or (Some f) = refl
 
+-- whether a processor waits for a lock does not depend on numbers
 waits_bare : (x : Own) → waits_for_lock x ≡ waits_for_lock (bare_own x)
 waits_bare x =
     let d = due_bare x 12 (omega arith) in
@@ -155,19 +177,23 @@ waits_bare x =
     ap (λ (o : Option Frame). option_map_or (λ (f : Frame). is_some f.spin) o false) (innermost_bare x.frames) ∙ spins_or (innermost x.frames) in
     rw (i, d) refl
 
+-- whether a processor still spins on a lock depends on no number that it keeps
 pub spins_bare : (x : Own) → spins_still x ≡ spins_still (bare_own x)
 spins_bare x = rw (waits_bare x, is_must_bare x) refl
 
+-- whether a processor has nothing to do depends on no number that it keeps
 pub still_bare : (x : Own) → is_still x ≡ is_still (bare_own x)
 still_bare x = ap (λ (b : Bool). b || spins_still x) (rests_bare x) ∙ ap (λ (b : Bool). rests (bare_own x) || b) (spins_bare x)
 
 -- ---- the innermost frame goes on
 
+-- the task of ending a body does not depend on the name of its frame, but for that name
 end_bare : (n : ℕ) (b : Body) → bare_task (end_task n b) ≡ bare_task (end_task 0 b)
 end_bare n (OnBase t) = refl
 end_bare n (OnApc a UserApc) = refl
 end_bare n b = refl
 
+-- the task of a call does not depend on the name of its frame, but for that name
 call_bare : (f : Frame) (c : Command) (r : Option Refusal) → bare_task (call_task f c r) ≡ bare_task (call_task (bare_frame f) c r)
 call_bare f c (Some r) = refl
 call_bare f ToUser None = refl
@@ -178,9 +204,11 @@ call_bare f c None = go (needs_lane c)
     go true = refl
     go false = refl
 
+-- whether a command is refused does not depend on the name of its frame
 refusal_bare : (level : ℕ) (own : Bool) (r : Regions) (f : Frame) (c : Command) → refusal level own r (bare_frame f) c ≡ refusal level own r f c
 refusal_bare level own r f c = refl
 
+-- the task of an optional command does not depend on numbers, but for its own
 command_bare : (x : Own) (f : Frame) (o : Option Command) →
     option_map bare_task (command_task x f o) ≡ option_map bare_task (command_task (bare_own x) (bare_frame f) o)
 command_bare x f None = refl
@@ -192,6 +220,7 @@ command_bare x f (Some c) =
     ap Some (call_bare f c (refusal (level_at x) (not (is_null x.frames.own)) (regions_of (thread_part x.frames)) f c)
     ∙ ap (λ (o : Option Refusal). bare_task (call_task (bare_frame f) c o)) (sym r))
 
+-- the task of a normal routine of a frame does not depend on its name, but for that name
 normal_bare : (f : Frame) → option_map bare_task (normal_task f) ≡ option_map bare_task (normal_task (bare_frame f))
 normal_bare f = go (f.kernel_phase && has_normal f.body)
   where
@@ -199,6 +228,7 @@ normal_bare f = go (f.kernel_phase && has_normal f.body)
     go true = refl
     go false = refl
 
+-- the task of a frame does not depend on numbers, but for its own
 frame_bare : (s : Script) (p : CpuNo) (x : Own) (f : Frame) →
     option_map bare_task (frame_task s p x f) ≡ option_map bare_task (frame_task s p (bare_own x) (bare_frame f))
 frame_bare s p x f =
@@ -210,12 +240,14 @@ frame_bare s p x f =
     (or_task (normal_task f) (Some (end_task f.name f.body)) (normal_task (bare_frame f)) (Some (end_task 0 f.body))
     (normal_bare f) (ap Some (end_bare f.name f.body))))))
 
+-- the task of an optional frame does not depend on numbers, but for its own
 then_bare : (s : Script) (p : CpuNo) (x : Own) (o : Option Frame) →
     option_map bare_task (option_and_then (frame_task s p x) o)
     ≡ option_map bare_task (option_and_then (frame_task s p (bare_own x)) (option_map bare_frame o))
 then_bare s p x None = refl
 then_bare s p x (Some f) = frame_bare s p x f
 
+-- the task of going on does not depend on numbers, but for its own
 go_on_bare : (s : Script) (p : CpuNo) (x : Own) → option_map bare_task (go_on_task s p x) ≡ option_map bare_task (go_on_task s p (bare_own x))
 go_on_bare s p x =
     or_task (option_and_then (frame_task s p x) (innermost x.frames)) (idle_task x)
@@ -223,6 +255,7 @@ go_on_bare s p x =
     (then_bare s p x (innermost x.frames)
     ∙ ap (λ (o : Option Frame). option_map bare_task (option_and_then (frame_task s p (bare_own x)) o)) (sym (innermost_bare x.frames))) refl
 
+-- what a processor has to do next does not depend on numbers, but for the task's own
 task_bare : (s : Script) (p : CpuNo) (x : Own) → option_map bare_task (task s p x) ≡ option_map bare_task (task s p (bare_own x))
 task_bare s p x =
     or_task (must_task x) _ (must_task (bare_own x)) _ (must_bare x)
@@ -237,9 +270,11 @@ task_bare s p x =
 
 -- ---- the next event
 
+-- where a processor stands, by what it keeps without numbers, is where it stands, without the frame's name
 pub stand_in_bare : (p : CpuNo) (x : Own) → stand_in p (bare_own x) ≡ bare_stand (stand_in p x)
 stand_in_bare p x = stand_bare p x.frames x.sweep
 
+-- tasks that are the same but for numbers give events that are the same but for numbers
 event_of_task : (s : Script) (st : Stand) (l : Lanes) (a b : Task) → bare_task a ≡ bare_task b →
     option_map bare_what (task_event s st l a) ≡ option_map bare_what (task_event s (bare_stand st) (bare_but_timers l) b)
 event_of_task s st l (Alone w) (Alone v) h = alone w v h
@@ -251,6 +286,7 @@ event_of_task s st l (Shared i) (Shared j) h =
 event_of_task s st l (Alone w) (Shared j) h = cc
 event_of_task s st l (Shared i) (Alone v) h = cc
 
+-- optional tasks that are the same but for numbers give such optional events
 event_then : (s : Script) (st : Stand) (l : Lanes) (a b : Option Task) → option_map bare_task a ≡ option_map bare_task b →
     option_map bare_what (option_and_then (task_event s st l) a) ≡ option_map bare_what (option_and_then (task_event s (bare_stand st) (bare_but_timers l)) b)
 event_then s st l None None h = refl

@@ -50,36 +50,44 @@ use Rattle.nt_timer.proofs.Among.{first_due_among, set_key_is_set}
 use Rattle.nt_timer.specs.Settings.{setting_at}
 use Rattle.nt_alike.specs.Parts.{IsTimely}
 
+-- a thread that is blocked in a delay has that delay set, under the number of the blocking event
 HasDelay : Doing → Option Setting → Type 0
 HasDelay (IsBlocked w) o = w.delay ≡ true → (z : Setting) × (o ≡ Some z) × (z.number ≡ w.event)
 HasDelay d o = Unit {0}
 
+-- a doing equal to one that has its delay set has it too
 has_same : (d e : Doing) (o : Option Setting) → e ≡ d → HasDelay d o → HasDelay e o
 has_same d e o q h = subst (λ (x : Doing). HasDelay x o) (sym q) h
 
 -- ---- what leaves the wait as it is
 
+-- a choice between two threads' facts with the same doing has that doing
 if_doing : (b : Bool) (x y : ThreadFacts) (d : Doing) → x.doing ≡ d → y.doing ≡ d → (if b then x else y).doing ≡ d
 if_doing true x y d h k = h
 if_doing false x y d h k = k
 
+-- setting an alert flag leaves what a thread does as it was
 set_doing : (m : Mode) (b : Bool) (x : ThreadFacts) → (set_alerted m b x).doing ≡ x.doing
 set_doing KernelMode b x = refl
 set_doing UserMode b x = refl
 
+-- answering a wait at once leaves what a thread does as it was
 answered_doing : (st : ℕ) (m : Mode) (alertable delay : Bool) (x : ThreadFacts) → (answered st m alertable delay x).doing ≡ x.doing
 answered_doing st m alertable delay x =
     if_doing (st == satisfied) _ _ x.doing (if_doing delay _ _ x.doing refl refl)
     (if_doing (st == alerted) _ _ x.doing (set_doing (if is_alerted m x then m else KernelMode) false x)
     (if_doing ((st == user_apc) && alertable) _ _ x.doing refl refl))
 
+-- testing for an alert leaves what a thread does as it was
 tested_doing : (m : Mode) (x : ThreadFacts) → (alert_tested m x).doing ≡ x.doing
 tested_doing m x = if_doing (is_alerted m x) _ _ x.doing (set_doing m false x) (if_doing _ _ _ x.doing refl refl)
 
+-- taking an APC leaves what a thread does as it was
 taken_doing : (k : ApcKind) (x : ThreadFacts) (s : Script) → (a : _) → (apc_taken k a x).doing ≡ x.doing
 taken_doing UserApc x s a = refl
 taken_doing k x s a = refl
 
+-- the end of a frame leaves what a thread does as it was
 ended_doing : (b : Option Body) (x : ThreadFacts) → (frame_ended b x).doing ≡ x.doing
 ended_doing (Some (OnApc a UserApc)) x = tested_doing UserMode x
 ended_doing (Some (OnBase t)) x = refl
@@ -87,6 +95,7 @@ ended_doing b x = refl
 
 -- ---- events that the thread makes
 
+-- a wait that is no delay leaves a thread with its delay set, if it had it so
 waited_has : (n : ℕ) (r : Regions) (level : ℕ) (m : Mode) (a : Bool) (y : Reply) (x : ThreadFacts) (o : Option Setting) → HasDelay x.doing o →
     HasDelay (waited n r level m a false y x).doing o
 unfolding HasDelay
@@ -94,6 +103,7 @@ waited_has n r level m a (Status st) x o h = has_same x.doing (answered st m a f
 waited_has n r level m a Blocked x o h = λ e. cc
 waited_has n r level m a y x o h = h
 
+-- a call of Delay leaves a thread with its delay set, if it had it so
 delayed_has : (n now : ℕ) (again : Option Again) (f : ℕ) (u : ℕ) (r : Regions) (level : ℕ) (m : Mode) (a : Bool) (y : Reply) (x : ThreadFacts)
     (o : Option Setting) → HasDelay x.doing o →
     HasDelay (waited n r level m a true y x).doing (blocked_after n now again (Call f (Delay m a u) y) o)
@@ -102,12 +112,14 @@ delayed_has n now again f u r level m a (Status st) x o h = has_same x.doing (an
 delayed_has n now again f u r level m a Blocked x o h = λ e. (_, refl, refl)
 delayed_has n now again f u r level m a y x o h = h
 
+-- a thread that blocks has just the delay set that it waits with, if any
 due_has : (n : ℕ) (r : Regions) (level : ℕ) (m : Mode) (a : Bool) (due : Option ℕ) (x : ThreadFacts) (o : Option Setting) →
     HasDelay (waited n r level m a (is_some due) Blocked x).doing (delay_set n due o)
 unfolding HasDelay
 due_has n r level m a None x o = λ e. cc
 due_has n r level m a (Some due) x o = λ e. (_, refl, refl)
 
+-- a wait that is taken up again leaves a thread with its delay set, if it had it so
 again_has : (n now : ℕ) (f : ℕ) (r : Regions) (level : ℕ) (again : Option Again) (y : Reply) (x : ThreadFacts) (o : Option Setting) → HasDelay x.doing o →
     HasDelay (waited_again n r level again y x).doing (blocked_after n now again (Rewait f y) o)
 again_has n now f r level None Blocked x o h = h
@@ -117,6 +129,7 @@ again_has n now f r level (Some w) (Status st) x o h =
     has_same x.doing (answered st w.mode w.alertable (is_some w.due) x).doing o (answered_doing st w.mode w.alertable (is_some w.due) x) h
 again_has n now f r level (Some w) y x o h = h
 
+-- what an event does to its own thread leaves it with its delay set, if it had it so
 made_has : (s : Script) (n now : ℕ) (st : Stand) (w : What) (x : ThreadFacts) (o : Option Setting) → HasDelay x.doing o →
     HasDelay (made_facts s n st w x).doing (blocked_after n now st.again w o)
 unfolding HasDelay
@@ -137,22 +150,27 @@ made_has s n now st w x o h = h
 
 -- ---- events that name the thread
 
+-- a choice between two threads' facts that have their delay set has it set
 if_has : (b : Bool) (x y : ThreadFacts) (o : Option Setting) → HasDelay x.doing o → HasDelay y.doing o → HasDelay (if b then x else y).doing o
 if_has true x y o h k = h
 if_has false x y o h k = k
 
+-- a thread whose wait has ended has any delay set, as it is blocked in none
 ended_has : (st : ℕ) (x : ThreadFacts) (o : Option Setting) → HasDelay (ended st x).doing o
 unfolding HasDelay
 ended_has st x o = tt
 
+-- releasing a thread leaves it with its delay set, if it had it so
 release_has : (x : ThreadFacts) (o : Option Setting) → HasDelay x.doing o → HasDelay (release_facts x).doing o
 release_has x o h = if_has (ends_by_release x) _ _ o (ended_has satisfied x o) (if_has (is_gone x) _ _ o h h)
 
+-- alerting a thread leaves it with its delay set, if it had it so
 alert_has : (m : Mode) (x : ThreadFacts) (o : Option Setting) → HasDelay x.doing o → HasDelay (alert_facts m x).doing o
 alert_has m x o h =
     if_has (is_gone x) _ _ o h (if_has (ends_by_alert m x) _ _ o (ended_has alerted x o)
     (has_same x.doing (set_alerted m true x).doing o (set_doing m true x) h))
 
+-- inserting an APC at a thread leaves it with its delay set, if it had it so
 insert_has : (p : Pick) (x : ThreadFacts) (o : Option Setting) → HasDelay x.doing o → HasDelay (insert_facts p x).doing o
 unfolding HasDelay
 insert_has p x o h = if_has (ends_by_apc p x) _ _ o (if_has (is_kernel_kind p.kind) _ _ o tt tt) h
@@ -162,6 +180,7 @@ abbrev NamesDelay : ThreadNo → What → Option Setting → Type 0
 NamesDelay t (Expire (DelayKey u) from) o = (u.0 == t.0) ≡ true → (z : Setting) × (o ≡ Some z) × (z.number ≡ from)
 NamesDelay t w o = Unit {0}
 
+-- a thread is blocked in no delay after the expiry of the one that is set
 expiry_has : (from : ℕ) (x : ThreadFacts) (o : Option Setting) → (z : Setting) → o ≡ Some z → z.number ≡ from → HasDelay x.doing o → (b : Bool) →
     ends_by_expiry from x ≡ b →
     HasDelay (if b then ended satisfied x else x).doing None
@@ -189,6 +208,7 @@ expiry_has from x o z q m h false e = go x.doing h e
     go IsRunning k f = tt
     go IsGone k f = tt
 
+-- what an event does to a thread that it names leaves it with its delay set, if it had it so
 named_has : (s : Script) (t : ThreadNo) (n : ℕ) (w : What) (x : ThreadFacts) (o : Option Setting) → NamesDelay t w o → HasDelay x.doing o →
     HasDelay (named_facts s t n w x).doing (expired_delay t w o)
 named_has s t n (Call f (Release u) y) x o d h = if_has (is_answer y && (u.0 == t.0)) _ _ o (release_has x o h) h

@@ -41,29 +41,35 @@ use Rattle.nt_alike.proofs.Mapped.{filter_map}
 abbrev pub bare_key : SetKey → SetKey
 bare_key x = record x { setting = bare_setting x.setting }
 
+-- the keys of a list of settings without numbers are those of the list, without numbers
 keyed_map : (key : ℕ → TimerKey) (n : ℕ) (xs : List (Option Setting)) → keyed key n (map (option_map bare_setting) xs) ≡ map bare_key (keyed key n xs)
 keyed_map key n [] = refl
 keyed_map key n (None ∷ xs) = keyed_map key (suc n) xs
 keyed_map key n (Some x ∷ xs) = ap (λ (ks : List SetKey). record { key = key n; setting = bare_setting x } ∷ ks) (keyed_map key (suc n) xs)
 
+-- mapping two lists joined is joining the two mapped
 map_append : {A B : Type 0} (f : A → B) (xs ys : List A) → map f (xs ++ ys) ≡ map f xs ++ map f ys
 map_append f [] ys = refl
 map_append {A} {B} f (x ∷ xs) ys = ap (λ (zs : List B). f x ∷ zs) (map_append f xs ys)
 
+-- the set keys of timers without numbers are those of the timers, without numbers
 keys_map : (x : Timers) → set_keys (bare_timers x) ≡ map bare_key (set_keys x)
 keys_map x =
     rw (keyed_map (λ n. OfTimer (timer n)) 0 x.timers, keyed_map (λ n. OfDelay (thread n)) 0 x.delays)
     (sym (map_append bare_key (keyed (λ n. OfTimer (timer n)) 0 x.timers) (keyed (λ n. OfDelay (thread n)) 0 x.delays)))
 
+-- the due keys of timers without numbers are those of the timers, without numbers
 due_map : (x : Timers) → filter (is_due_key x.now) (set_keys (bare_timers x)) ≡ map bare_key (filter (is_due_key x.now) (set_keys x))
 due_map x = ap (filter (is_due_key x.now)) (keys_map x) ∙ filter_map bare_key (is_due_key x.now) (is_due_key x.now) (λ k. refl) (set_keys x)
 
 -- ---- the first due key
 
+-- that each key of a list is set in the timers as the list says
 AllSet : Timers → List SetKey → Type 0
 AllSet x [] = Unit {0}
 AllSet x (k ∷ ks) = (setting_at k.key x ≡ Some k.setting) × AllSet x ks
 
+-- a list whose keys are each set as it says is set throughout
 all_set : (x : Timers) (ks : List SetKey) → ((k : SetKey) → Among k ks → setting_at k.key x ≡ Some k.setting) → AllSet x ks
 unfolding AllSet
 all_set x [] h = tt
@@ -132,6 +138,7 @@ module _ (x y : Timers) (order : SameOrder x y) where
 
 -- ---- what an event leaves, but for numbers
 
+-- renewing a setting and leaving out its number may be done in either order
 renewed_bare : (n now : ℕ) (o : Option Setting) → option_map bare_setting (renewed n now o) ≡ renewed 0 now (option_map bare_setting o)
 renewed_bare n now None = refl
 renewed_bare n now (Some x) = go (x.period == 0)
@@ -141,11 +148,13 @@ renewed_bare n now (Some x) = go (x.period == 0)
     go true = refl
     go false = refl
 
+-- a choice between two settings, without numbers, is the choice between the two without numbers
 either : (b : Bool) (x y v w : Option Setting) → option_map bare_setting x ≡ v → option_map bare_setting y ≡ w →
     option_map bare_setting (if b then x else y) ≡ (if b then v else w)
 either true x y v w h k = h
 either false x y v w h k = k
 
+-- what an event leaves of a timer's setting, but for its number, depends on no number
 timer_bare : (t : TimerNo) (n now : ℕ) (w : What) (old : Option Setting) →
     option_map bare_setting (timer_after t n now w old) ≡ timer_after t 0 now (bare_what w) (option_map bare_setting old)
 timer_bare t n now (Call f (SetTimer x due period) y) old = either (is_answer y && (x.0 == t.0)) _ _ _ _ refl refl
@@ -154,11 +163,13 @@ timer_bare t n now (Expire (OfTimer x) from) old = either (x.0 == t.0) _ _ _ _ (
 timer_bare t n now (Call f c y) old = refl
 timer_bare t n now w old = refl
 
+-- setting a delay if a due time is given and leaving out its number may be done in either order
 delay_set_bare : (n : ℕ) (due : Option ℕ) (old : Option Setting) →
     option_map bare_setting (delay_set n due old) ≡ delay_set 0 due (option_map bare_setting old)
 delay_set_bare n None old = refl
 delay_set_bare n (Some due) old = refl
 
+-- what a block leaves of a delay's setting, but for its number, depends on no number
 blocked_bare : (n now : ℕ) (again : Option Again) (w : What) (old : Option Setting) →
     option_map bare_setting (blocked_after n now again w old) ≡ blocked_after 0 now again (bare_what w) (option_map bare_setting old)
 blocked_bare n now again (Call f (Delay m a units) Blocked) old = refl
@@ -166,24 +177,29 @@ blocked_bare n now again (Rewait f Blocked) old = delay_set_bare n (option_and_t
 blocked_bare n now again (Call f c y) old = refl
 blocked_bare n now again w old = refl
 
+-- what an expiry leaves of a delay's setting, but for its number, depends on no number
 expired_bare : (t : ThreadNo) (w : What) (old : Option Setting) →
     option_map bare_setting (expired_delay t w old) ≡ expired_delay t (bare_what w) (option_map bare_setting old)
 expired_bare t (Expire (OfDelay u) from) old = either (u.0 == t.0) _ _ _ _ refl refl
 expired_bare t w old = refl
 
+-- what an event leaves of a delay's setting, but for its number, depends on no number
 delay_bare : (s : Script) (t : ThreadNo) (n now : ℕ) (again : Option Again) (e : Event) (old : Option Setting) →
     option_map bare_setting (delay_after s t n now again e old) ≡ delay_after s t 0 now again (bare_event e) (option_map bare_setting old)
 delay_bare s t n now again e old =
     expired_bare t e.what (if is_of_thread s t e then blocked_after n now again e.what old else old)
     ∙ ap (expired_delay t (bare_what e.what)) (either (is_of_thread s t e) _ _ _ _ (blocked_bare n now again e.what old) refl)
 
+-- the time after an event does not depend on the event's numbers
 time_bare : (w : What) (now : ℕ) → time_after w now ≡ time_after (bare_what w) now
 time_bare (Call f c y) now = refl
 time_bare w now = refl
 
+-- a setting read from a list of settings without numbers is that setting without its number
 pub setting_read : (xs : List (Option Setting)) (i : ℕ) → setting_in (map (option_map bare_setting) xs) i ≡ option_map bare_setting (setting_in xs i)
 setting_read xs i = read_map (option_map bare_setting) xs i None
 
+-- what an event leaves of the timers, but for numbers, depends on no number
 pub timers_bare : (s : Script) (n : ℕ) (st : Stand) (e : Event) (x : Timers) →
     bare_timers (timers_after s n st e x) ≡ timers_after s 0 (bare_stand st) (bare_event e) (bare_timers x)
 timers_bare s n st e x =
@@ -225,23 +241,28 @@ Anew : Bool → ℕ → Option Setting → Option Setting → Type 0
 Anew true n old new = (z : Setting) → new ≡ Some z → z.number ≡ n
 Anew false n old new = (z : Setting) → new ≡ Some z → old ≡ Some z
 
+-- a setting that is left as it was is not set anew
 kept : (n : ℕ) (old : Option Setting) → Anew false n old old
 unfolding Anew
 kept n old = λ z h. h
 
+-- where an event leaves no setting, it counts as set anew and as kept
 dropped : (b : Bool) (n : ℕ) (old : Option Setting) → Anew b n old None
 unfolding Anew
 dropped true n old = λ z h. cc
 dropped false n old = λ z h. cc
 
+-- a setting made with a number has that number
 number_of : (n due period : ℕ) (z : Setting) → ◌≡◌ {A = Option Setting} (Some (record { due = due; number = n; period = period })) (Some z) → z.number ≡ n
 number_of n due period z h = let e : record { due = due; number = n; period = period } ≡ z = cc in sym (ap (λ (x : Setting). x.number) e)
 
+-- a choice between a new setting and the old one is anew where it is the new one
 set_or : (b : Bool) (n : ℕ) (new old : Option Setting) → Anew true n old new → Anew b n old (if b then new else old)
 unfolding Anew
 set_or true n new old h = h
 set_or false n new old h = λ z e. e
 
+-- a setting that is renewed is set anew, under the event's number
 renewed_anew : (n now : ℕ) (old : Option Setting) → Anew true n old (renewed n now old)
 unfolding Anew
 renewed_anew n now None = λ z e. cc
@@ -251,11 +272,13 @@ renewed_anew n now (Some x) = go (x.period == 0)
     go true z e = cc
     go false z e = number_of n (now + x.period) x.period z e
 
+-- a setting that is dropped or left is not set anew
 none_or : (b : Bool) (n : ℕ) (old : Option Setting) → Anew false n old (if b then None else old)
 unfolding Anew
 none_or true n old = λ z e. cc
 none_or false n old = λ z e. e
 
+-- a timer's setting is set anew just where the event sets the timer
 timer_anew : (t : TimerNo) (n now : ℕ) (w : What) (old : Option Setting) → Anew (sets_timer t w) n old (timer_after t n now w old)
 unfolding Anew
 timer_anew t n now (Call f (SetTimer x due period) y) old =
@@ -265,11 +288,13 @@ timer_anew t n now (Expire (OfTimer x) from) old = set_or (x.0 == t.0) n (renewe
 timer_anew t n now (Call f c y) old = λ z e. e
 timer_anew t n now w old = λ z e. e
 
+-- a delay's setting is anew just where a due time is given
 set_due : (n : ℕ) (due : Option ℕ) (old : Option Setting) → Anew (is_some due) n old (delay_set n due old)
 unfolding Anew
 set_due n None old = λ z e. e
 set_due n (Some due) old = λ z e. number_of n due 0 z e
 
+-- a delay's setting is anew just where the event blocks in a delay
 blocked_anew : (n now : ℕ) (again : Option Again) (w : What) (old : Option Setting) → Anew (blocks_delay again w) n old (blocked_after n now again w old)
 unfolding Anew
 blocked_anew n now again (Call f (Delay m a units) Blocked) old = λ z e. number_of n (now + units) 0 z e
@@ -277,6 +302,7 @@ blocked_anew n now again (Rewait f Blocked) old = set_due n (option_and_then (λ
 blocked_anew n now again (Call f c y) old = λ z e. e
 blocked_anew n now again w old = λ z e. e
 
+-- a thread's delay is set anew just where the event is of the thread and blocks in a delay
 delay_anew : (s : Script) (t : ThreadNo) (n now : ℕ) (again : Option Again) (e : Event) (old : Option Setting) →
     Anew (is_of_thread s t e && blocks_delay again e.what) n old (delay_after s t n now again e old)
 delay_anew s t n now again e old =
@@ -295,6 +321,7 @@ delay_anew s t n now again e old =
         cut false = h
     expired b w x h = h
 
+-- a key's setting is anew just where the event sets that key
 key_anew : (s : Script) (n : ℕ) (st : Stand) (e : Event) (x : Timers) (a : TimerKey) →
     Anew (sets s st e a) n (setting_at a x) (setting_at a (timers_after s n st e x))
 key_anew s n st e x (OfTimer t) = at (nat_lt t.0 (length s.timers)) refl
@@ -328,6 +355,7 @@ key_anew s n st e x (OfDelay t) = at (nat_lt t.0 (length s.threads)) refl
 pub AllBelow : ℕ → Timers → Type 0
 AllBelow n x = (a : TimerKey) (z : Setting) → setting_at a x ≡ Some z → z.number < n
 
+-- timers all set at earlier events are so after one more event, counting it
 below_after : (s : Script) (n : ℕ) (st : Stand) (e : Event) (x : Timers) → AllBelow n x → AllBelow (suc n) (timers_after s n st e x)
 unfolding AllBelow Anew
 below_after s n st e x h a z q = go (sets s st e a) (key_anew s n st e x a)
@@ -336,6 +364,7 @@ below_after s n st e x h a z q = go (sets s st e a) (key_anew s n st e x a)
     go true k = let m = k z q in omega (arith, m)
     go false k = let m = h a z (k z q) in omega (arith, m)
 
+-- a table that sets nothing has no setting
 none_set : (n i : ℕ) (z : Setting) → get_or {A = Option Setting} (table n (λ t. None)) i None ≡ Some z → ⊥
 none_set n i z h = at (nat_lt i n) refl
   where
@@ -352,6 +381,7 @@ none_set n i z h = at (nat_lt i n) refl
         none : ◌≡◌ {A = Option Setting} None (Some z) → ⊥
         none q = cc
 
+-- each timer key that is set after a history was set by one of its events
 pub all_below : (s : Script) (past : List Event) → AllBelow (length past) (timers_at s past)
 unfolding AllBelow
 all_below s [] (OfTimer t) z h = absurd (none_set (length s.timers) t.0 z h)

@@ -24,10 +24,12 @@ pub fewer_without : (a : ApcNo) (q : ApcQueues) → is_inserted a q ≡ true →
 fewer_without a q h =
     omega (arith, length-filter_both (is_of_apc a) (λ x. not (is_of_apc a x)) (λ x. refl) q.pending, some_passes (is_of_apc a) q.pending h)
 
+-- taking a pending APC's insert out leaves fewer pending inserts
 pub fewer_if : (a : ApcNo) (q new : ApcQueues) (b : Bool) → new ≡ without_apc a q → b ≡ is_inserted a q → OnTrue b (length new.pending < length q.pending)
 fewer_if a q new true e h = rw e (fewer_without a q (sym h))
 fewer_if a q new false e h = tt
 
+-- if a search finds an insert, some insert of the list is of its APC object
 found_is_in : (p : Pick → Bool) (xs : List Pick) (x : Pick) → find p xs ≡ Some x → list_any (is_of_apc x.apc) xs ≡ true
 found_is_in p [] x h = absurd (cc)
 found_is_in p (y ∷ xs) x h = go (found_is_in p xs x) (p y) refl

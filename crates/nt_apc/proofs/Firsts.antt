@@ -14,6 +14,7 @@ use Rattle.nt_event.specs.declared.commands.ApcKind.TheVariants.{Normal as Norma
 use Rattle.nt_event.specs.declared.commands.Regions.{Regions}
 use Rattle.nt_event.specs.declared.inserts.Pick.{Pick}
 
+-- kinds of APC that are found equal are the same
 pub kind-same : (a b : ApcKind) → same_kind a b ≡ true → b ≡ a
 kind-same SpecialApc SpecialApc h = refl
 kind-same NormalApc NormalApc h = refl
@@ -63,6 +64,7 @@ kinds-with x s n special normal = go x.kind refl s n special normal where
   go UserApc e None (Some z) special normal = refl
   go UserApc e None None special normal = refl
 
+-- the kind of the first kernel APC after an insert follows from the insert's kind and the first one's before
 pub kernel-with : (x : Pick) (q : ApcQueues) → kind_in (first_kernel (with_apc x q)) ≡ kind_with x.kind (kind_in (first_kernel q))
 kernel-with x q =
     rw (first-with SpecialApc x q, first-with NormalApc x q) (kinds-with x (first_of_kind SpecialApc q) (first_of_kind NormalApc q)
@@ -79,6 +81,7 @@ deliverable-kind q r level = go (first_kernel q) where
   go None = refl
   go (Some x) = test ((level == 0) && lets_through r x.kind) x
 
+-- a kernel APC is deliverable after an insert exactly if one of the kind that is then first may begin
 pub deliverable-with : (x : Pick) (q : ApcQueues) (r : Regions) (level : ℕ) →
     is_some (deliverable (with_apc x q) r level) ≡ may_begin r level (kind_with x.kind (kind_in (first_kernel q)))
 deliverable-with x q r level = deliverable-kind (with_apc x q) r level ∙ ap (λ (k : Option ApcKind). may_begin r level k) (kernel-with x q)

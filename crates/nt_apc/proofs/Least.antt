@@ -22,6 +22,7 @@ abbrev In : Pick → List Pick → Type 0
 In x [] = ⊥
 In x (y ∷ ys) = (y ≡ x) ⊎ In x ys
 
+-- an insert that a filter keeps passes the test and is in the list
 in-filter : (p : Pick → Bool) (xs : List Pick) (x : Pick) → In x (filter p xs) → (p x ≡ true) × In x xs
 in-filter p [] x m = absurd m
 in-filter p (y ∷ ys) x m = go (p y) refl m (in-filter p ys x) where
@@ -30,6 +31,7 @@ in-filter p (y ∷ ys) x m = go (p y) refl m (in-filter p ys x) where
   go true e (inr m) rest = ((rest m).0, inr (rest m).1)
   go false e m rest = ((rest m).0, inr (rest m).1)
 
+-- an insert of the list that passes the test is in the filtered list
 filter-in : (p : Pick → Bool) (xs : List Pick) (x : Pick) → p x ≡ true → In x xs → In x (filter p xs)
 filter-in p [] x e m = m
 filter-in p (y ∷ ys) x e m = go (p y) refl m (filter-in p ys x e) where
@@ -41,10 +43,12 @@ filter-in p (y ∷ ys) x e m = go (p y) refl m (filter-in p ys x e) where
 
 -- ---- what is pending
 
+-- a truth value whose negation is true is false
 not-true-false : (b : Bool) → not b ≡ true → b ≡ false
 not-true-false true e = absurd (false≢true e)
 not-true-false false e = refl
 
+-- an insert stays pending after an act that doesn't use its object
 later-act : (x : Pick) (act : Act) (past : List Act) → uses x.apc act ≡ false → IsPending x past → IsPending x (act ∷ past)
 later-act x act past u h = record {
   later = act ∷ h.later;
@@ -53,6 +57,7 @@ later-act x act past u h = record {
   unused = All-cons (λ a. uses x.apc a ≡ false) act h.later u h.unused;
 }
 
+-- each insert in a thread's list was made and not used up since
 pub pending-from_in : (acts : List Act) (x : Pick) → In x (queues_of acts).pending → IsPending x acts
 pending-from_in [] x m = absurd m
 pending-from_in (Inserts y ∷ past) x (inl same) = record {
@@ -76,6 +81,7 @@ in-later (Uses a ∷ later) earlier x u =
     filter-in (λ z. not (is_of_apc a z)) (queues_of (later ++ Inserts x ∷ earlier)).pending x (ap not u.0) (in-later later earlier x u.1)
 in-later (Closes ∷ later) earlier x u = in-later later earlier x u.1
 
+-- each insert that was made and not used up since is in the thread's list
 pub in-from_pending : (acts : List Act) (x : Pick) → IsPending x acts → In x (queues_of acts).pending
 in-from_pending acts x h =
     subst (λ (a : List Act). In x (queues_of a).pending) (sym h.made) (in-later h.later h.earlier x
@@ -88,6 +94,7 @@ abbrev Falling : List Pick → Type 0
 Falling [] = Unit {0}
 Falling (x ∷ xs) = AllByRecursion (λ y. y.number < x.number) xs × Falling xs
 
+-- what holds of each insert of a list holds of each that a filter keeps
 each-filter : (P : Pick → Type 0) (p : Pick → Bool) (xs : List Pick) → AllByRecursion P xs → AllByRecursion P (filter p xs)
 each-filter P p [] h = tt
 each-filter P p (x ∷ xs) h = go (p x) (each-filter P p xs h.1) where
@@ -95,6 +102,7 @@ each-filter P p (x ∷ xs) h = go (p x) (each-filter P p xs h.1) where
   go true rest = (h.0, rest)
   go false rest = rest
 
+-- numbers that fall along a list of inserts fall along the filtered list
 falling-filter : (p : Pick → Bool) (xs : List Pick) → Falling xs → Falling (filter p xs)
 falling-filter p [] h = tt
 falling-filter p (x ∷ xs) h = go (p x) (falling-filter p xs h.1) where
@@ -102,18 +110,21 @@ falling-filter p (x ∷ xs) h = go (p x) (falling-filter p xs h.1) where
   go true rest = (each-filter (λ y. y.number < x.number) p xs h.0, rest)
   go false rest = rest
 
+-- if all numbers inserted are below a bound, the pending inserts' numbers are below it
 below-pending : (n : ℕ) (acts : List Act) → NumbersBelow n acts → AllByRecursion (λ y. y.number < n) (queues_of acts).pending
 below-pending n [] h = tt
 below-pending n (Inserts x ∷ past) h = (h.0, below-pending n past h.1)
 below-pending n (Uses a ∷ past) h = each-filter (λ y. y.number < n) _ (queues_of past).pending (below-pending n past h)
 below-pending n (Closes ∷ past) h = below-pending n past h
 
+-- if the inserted numbers rise, the numbers of the pending inserts fall along the list
 falling-pending : (acts : List Act) → NumbersRise acts → Falling (queues_of acts).pending
 falling-pending [] h = tt
 falling-pending (Inserts x ∷ past) h = (below-pending x.number past h.0, falling-pending past h.1)
 falling-pending (Uses a ∷ past) h = falling-filter _ (queues_of past).pending (falling-pending past h)
 falling-pending (Closes ∷ past) h = falling-pending past h
 
+-- what holds of each insert of a list holds of one that is in it
 at-in : (P : Pick → Type 0) (xs : List Pick) (x : Pick) → AllByRecursion P xs → In x xs → P x
 at-in P [] x h m = absurd m
 at-in P (y ∷ ys) x h (inl same) = subst P same h.0
@@ -130,6 +141,7 @@ abbrev First : (Pick → Bool) → List Pick → Option Pick → Type 0
 First t xs None = (y : Pick) → In y xs → t y ≡ false
 First t xs (Some x) = IsFirst t xs x
 
+-- where numbers fall, a search from the list's end finds the least number that passes, or nothing passes
 first-least : (t : Pick → Bool) (xs : List Pick) → Falling xs → First t xs (find t (reverse xs))
 first-least t [] h = λ y m. absurd m
 first-least t (x ∷ xs) h =
@@ -157,6 +169,7 @@ first-least t (x ∷ xs) h =
       }
       go None false e f = λ z m. elim m [ inl same ↦ (sym (ap t same) ∙ e) | inr later ↦ f z later ]
 
+-- an insert whose kind is the given one passes the test for this kind
 of-kind : (kind : ApcKind) (x : Pick) → x.kind ≡ kind → is_of_kind kind x ≡ true
 of-kind kind x e = ap (λ (k : ApcKind). same_kind kind k) e ∙ same kind where
   same : (k : ApcKind) → same_kind k k ≡ true
@@ -164,6 +177,7 @@ of-kind kind x e = ap (λ (k : ApcKind). same_kind kind k) e ∙ same kind where
   same NormalApc = refl
   same UserApc = refl
 
+-- if insert numbers rise, the first APC of a kind is the pending one of least number
 pub firsts-least : FirstsAreLeast
 firsts-least acts rise kind = go (find (is_of_kind kind) (reverse (queues_of acts).pending))
     (first-least (is_of_kind kind) (queues_of acts).pending (falling-pending acts rise)) where

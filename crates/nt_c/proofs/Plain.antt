@@ -10,9 +10,11 @@ use Rattle.nt_top.specs.Status.{status_number}
 use Rattle.nt_c.specs.Call.{IsPlain, needs_threads}
 use Rattle.nt_c.specs.Streams.{Input, Text, new_input, new_text}
 
+-- a count of faults that stays zero did not rise
 no_rise : Rose 0 0 → ⊥
 no_rise h = omega (arith, h)
 
+-- the number of a status is below the one for words that need threads
 other : (s : Status) → status_number s < needs_threads
 other exit.Ok = lit< tt
 other exit.Usage = lit< tt
@@ -33,6 +35,7 @@ Told words source sink left held faults status =
     IsAnswered words (supply (Some source.left) source.taken 0) left (store (Some sink.held) sink.faults) (store (Some held) faults) status ×
     HasCause words (supply (Some source.left) source.taken 0) left (store (Some sink.held) sink.faults) (store (Some held) faults) status
 
+-- case: the source holds the input, the sink is new, and neither met a fault
 from_told : {words : List (List ℕ)} {input text : List ℕ} {number : ℕ} {left : Supply} {status : Status} → names_live words ≡ false → left.faults ≡ 0
     → number ≡ status_number status → Told words (new_input input) new_text left text 0 status → IsPlain words input number text
 from_told {left = left} {status = status} alone no_fault is told = record {
@@ -48,6 +51,7 @@ from_told {left = left} {status = status} alone no_fault is told = record {
   taken = λ e. no_rise (told.1.write e);
 }
 
+-- what is ensured of a new source and sink that met no fault is what `plain` answers
 pub is_plain : {words : List (List ℕ)} {input text held : List ℕ} {number faults : ℕ} {source : Input} {sink : Text} {left : Supply} {status : Status}
     → names_live words ≡ false → source ≡ new_input input → sink ≡ new_text → left.faults ≡ 0 → faults ≡ 0 → text ≡ held → number ≡ status_number status
     → Told words source sink left held faults status → IsPlain words input number text

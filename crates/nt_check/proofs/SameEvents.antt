@@ -35,10 +35,12 @@ use Rattle.nt_event.specs.contracts.numbers.TimerNoPartialEq.TheImpl as timer_eq
 use Rattle.nt_history.proofs.Same.{Same, bool_same, enum_same, nat_same, none_same, one_same, option_same, three_same, two_same}
 use Rattle.nt_history.proofs.SameParts.{apc_same, begun_same, command_same, cpu_same, dpc_same, key_same, lock_same, reply_same, thread_same}
 
+-- looks whose values test equal are the same
 rises_same : Same rises_eq.ghosts.eq
 rises_same x y h =
     ap (λ (v : List ℕ). record { value = v }) ((slice_eq-Decides Decides-eqb x.value y.value _ refl).0 h)
 
+-- what two events did is the same if it tests equal
 what_same : Same what_eq.ghosts.eq
 what_same = enum_same what.enum _ (
   three_same nat_same command_same reply_same,
@@ -72,6 +74,7 @@ what_same = enum_same what.enum _ (
   ),
 )
 
+-- the equality test of events is true only of events that are the same
 pub event_same : Same event_eq.ghosts.eq
 event_same x y h =
     let a = both _ _ h in
@@ -83,8 +86,10 @@ event_same x y h =
     let whats = what_same x.what y.what c.1 in
     λ i. record { cpu = cpus i; thread = threads i; level = levels i; what = whats i }
 
+-- an event tests equal to itself
 event_self : (e : Event) → event_eq.ghosts.eq e e ≡ true
 event_self e = laws-law.refl e
 
+-- the test of two events is true exactly if they are the same event
 pub event_test : (x y : Event) (b : Bool) → b ≡ event_eq.ghosts.eq x y → IsTrue b ↔ (x ≡ y)
 event_test x y b h = (λ t. event_same x y (sym h ∙ t), λ k. h ∙ subst (λ (z : Event). event_eq.ghosts.eq x z ≡ true) k (event_self x))

@@ -36,9 +36,11 @@ past_more events n e h =
 pub past_whole : (events : List Event) (n : ℕ) → n ≡ length events → past_at n events ≡ reverse events
 past_whole events n h = ap (λ (k : ℕ). past_at k events) h ∙ ap reverse (take-length events)
 
+-- two events that are given as the same option are the same
 pub same_some : (x y : Event) → Some x ≡ Some y → x ≡ y
 same_some x y h = cc
 
+-- if a step made one event and the result tells another, the two are the same
 pub same_ok : (u : Result (Unit {0}) CoreRefusal) (v : Unit {0}) (x y : Event) → u ≡ Ok v → made_by u x ≡ Ok y → x ≡ y
 same_ok (Ok u) v x y h k = cc
 same_ok (Err r) v x y h k = absurd cc
@@ -50,6 +52,7 @@ event_at (Some e) t h = (e, (refl, cc))
 
 -- ---- what the processors do with them
 
+-- fresh processors and a fresh floor are as after the empty history, if script and limits are in range
 pub start_checked : (s : Script) (turns : ℕ) (events : List Event) (c : CpusState) (f : PlainState) → IsTrue (fits s) → turns ≤ TURNS →
     s.cpus * turns ≤ EVENTS → c ≡ record { script = s; limit = turns; cpus = cpus_of s turns [] } → IsFresh s turns f →
     AreAfter (past_at 0 events) c f.script (view_of f)
@@ -64,11 +67,13 @@ IsMade c d t floor v other w e =
 abbrev pub IsUnmade : CpusState → Turn → Script → View → CoreRefusal → Type 0
 IsUnmade c t floor v r = (past : List Event) → AreAfter past c floor v → step c.script c.limit t past ≡ Err (kind_of r)
 
+-- if a turn was made whenever the processors answered well, then it was made with the event that is told
 pub made_ok : (c d : CpusState) (t : Turn) (floor other : Script) (v w : View) (r : Result (Unit {0}) CoreRefusal) (e : Event) →
     OnOk r (IsMade c d t floor v other w e) → IfOk (made_by r e) (IsMade c d t floor v other w)
 made_ok c d t floor other v w (Ok u) e h = h
 made_ok c d t floor other v w (Err x) e h = tt
 
+-- a refusal of the processors stays one when the event is added to their answer
 pub made_err : (c : CpusState) (t : Turn) (floor : Script) (v : View) (r : Result (Unit {0}) CoreRefusal) (e : Event) → IfErr r (IsUnmade c t floor v) →
     IfErr (made_by r e) (IsUnmade c t floor v)
 made_err c t floor v (Ok u) e h = tt

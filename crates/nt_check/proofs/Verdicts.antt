@@ -43,18 +43,21 @@ run_at s limit events (suc m) n e b l h r = go (n == m) refl (λ c d q. run_at s
 
 -- ---- one verdict at most
 
+-- each event of a history that is a run is legal after the ones before it
 whole_at : (s : Script) (limit : ℕ) (events : List Event) (n : ℕ) (e : Event) → IsRun s limit (reverse events) → slice_get events n ≡ Some e →
     IsLegal s limit e (past_at n events)
 whole_at s limit events n e r h =
     run_at s limit events (length events) n e (omega arith) (slice_get_within events n e h) h
     (subst (λ (past : List Event). IsRun s limit past) (sym (past_whole events (length events) refl)) r)
 
+-- the first illegal event of a history is not before another first illegal event
 not_before : (s : Script) (limit : ℕ) (events : List Event) (n m : ℕ) (e f : Event) → IsFirstIllegal s limit events n e →
     IsFirstIllegal s limit events m f → n < m → ⊥
 not_before s limit events n m e f i j l =
     let b : m < length events = slice_get_within events m f j.there in
     i.illegal (run_at s limit events m n e (omega (arith, b)) l i.there j.before)
 
+-- two first illegal events of a history stand at the same place
 same_first : (s : Script) (limit : ℕ) (events : List Event) (n m : ℕ) (e f : Event) → IsFirstIllegal s limit events n e →
     IsFirstIllegal s limit events m f → n ≡ m
 same_first s limit events n m e f i j = go (nat_lt n m) refl (nat_lt m n) refl
@@ -64,9 +67,11 @@ same_first s limit events n m e f i j = go (nat_lt n m) refl (nat_lt m n) refl
     go false k true h = absurd (not_before s limit events m n f e j i (ltb-true m n h))
     go false k false h = let x : m ≤ n = ltb-false n m k in let y : n ≤ m = ltb-false m n h in omega (arith, x, y)
 
+-- a test does not both hold and fail
 settled_not : {A : Type 0} (b : Bool) → b ≡ true → b ≡ false → A
 settled_not b h k = absurd cc
 
+-- two verdicts on the same events are the same verdict
 pub verdict_same : (s : Script) (limit : ℕ) (events : List Event) (v w : Verdict) → IsVerdict s limit events v → IsVerdict s limit events w → w ≡ v
 verdict_same s limit events Legal Legal i j = refl
 verdict_same s limit events Legal (IllegalAt m) i (inl j) = absurd (j.1.illegal (whole_at s limit events m j.0 i.0 j.1.there))
@@ -120,6 +125,7 @@ verdict_from s limit events (suc k) n e r = go (slice_get_cases events n).1 (λ 
     go (inl c) more = here c.0 c.2 more (is_it (step s limit (turn_of c.0) (past_at n events)) c.0)
     go (inr c) more = absurd (let l = c.0 in omega (arith, e, l))
 
+-- a history has a verdict, and every verdict on it is that one
 pub one_verdict : (s : Script) (limit : ℕ) (events : List Event) →
     (v : Verdict) × (IsVerdict s limit events v × ((w : Verdict) → IsVerdict s limit events w → w ≡ v))
 one_verdict s limit events =

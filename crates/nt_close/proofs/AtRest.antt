@@ -32,22 +32,27 @@ use Rattle.nt_event.proofs.Booleans.{and_both}
 
 -- ---- options, tests and tables
 
+-- if neither of two options is there to take, each of them is none
 or_none : {A : Type 0} (a b : Option A) → option_or a b ≡ None → (a ≡ None) × (b ≡ None)
 or_none None b h = (refl, h)
 or_none (Some x) b h = cc
 
+-- if a mapped option is none, so is the option
 map_none : {A B : Type 0} (f : A → B) (o : Option A) → option_map f o ≡ None → o ≡ None
 map_none f None h = refl
 map_none f (Some x) h = cc
 
+-- if an option that is there only under a condition is none, the condition is false
 when_none : {A : Type 0} (b : Bool) (x : A) → when b (Some x) ≡ None → b ≡ false
 when_none true x h = cc
 when_none false x h = refl
 
+-- an option that isn't there is none
 not_some : {A : Type 0} (o : Option A) → is_some o ≡ false → o ≡ None
 not_some None h = refl
 not_some (Some x) h = cc
 
+-- if an "or" is false, both of its sides are false
 pub neither : (a b : Bool) → (a || b) ≡ false → (a ≡ false) × (b ≡ false)
 neither true b h = cc
 neither false b h = (refl, h)
@@ -57,6 +62,7 @@ pub second_fails : (a b : Bool) → a ≡ true → (a && b) ≡ false → b ≡ 
 second_fails true b e h = h
 second_fails false b e h = cc
 
+-- if all entries of a table from k on are true, the function is true at each of its places
 all_table : (k n : ℕ) (f : ℕ → Bool) → list_all (λ done. done) (table_from k n f) ≡ true → (i : ℕ) → i < n → f (k + i) ≡ true
 unfolding table_from
 all_table k zero f h i l = absurd (omega (arith, l))
@@ -64,9 +70,11 @@ all_table k (suc n) f h zero l = let e : k + 0 ≡ k = omega arith in rw e (both
 all_table k (suc n) f h (suc i) l =
     let e : k + suc i ≡ suc k + i = omega arith in rw e (all_table (suc k) n f (both (f k) _ h).1 i (omega (arith, l)))
 
+-- if all entries of a table from 0 on are true, the function is true at each number below its length
 all_from : (n : ℕ) (f : ℕ → Bool) → list_all (λ done. done) (table_from 0 n f) ≡ true → (i : ℕ) → i < n → f i ≡ true
 all_from n f h i l = let e : 0 + i ≡ i = omega arith in rw e at (all_table 0 n f h i l)
 
+-- if no element passes a test, an element of the list fails it
 none_of_them : (test : ℕ → Bool) (xs : List ℕ) (c : ℕ) → find test xs ≡ None → list_any (λ k. k == c) xs ≡ true → test c ≡ false
 none_of_them test [] c h a = cc
 none_of_them test (x ∷ xs) c h a =
@@ -86,6 +94,7 @@ pub record IsIdle (x : Own) : Type 0 where
   pub drain : may_drain x ≡ false
   pub threaded : may_threaded x ≡ false
 
+-- if a processor has no task that it must do, no interrupt, drain or threaded DPC may start on it
 idle_of : (x : Own) → must_task x ≡ None → IsIdle x
 idle_of x h =
     let a = or_none (fire_task x) (option_or (interrupt_task x)
@@ -111,14 +120,17 @@ pub record IsAtRest (s : Script) (p : CpuNo) (past : List Event) : Type 0 where
   pub clear : IsClear p past
   pub seen : (c : ℕ) → c < 16 → seen s p c past ≡ asked s p c past
 
+-- if an "or" is true and its first side is false, its second side is true
 first_of_or : (a b : Bool) → (a || b) ≡ true → a ≡ false → b ≡ true
 first_of_or true b h e = cc
 first_of_or false b h e = h
 
+-- if the negation of a boolean is true, the boolean is false
 not_true : (b : Bool) → not b ≡ true → b ≡ false
 not_true true h = cc
 not_true false h = refl
 
+-- in a run a processor that rests and has seen every ask is at rest
 rest_of : (s : Script) (limit : ℕ) (p : CpuNo) (past : List Event) → IsRun s limit past →
     (rests (own_of s p past) && has_seen (own_of s p past) (λ c. asked s p c past)) ≡ true → IsAtRest s p past
 rest_of s limit p past r h =
@@ -165,6 +177,7 @@ pub record IsStuck (s : Script) (p : CpuNo) (past : List Event) : Type 0 where
   pub waits : waits_for_lock (own_of s p past) ≡ true
   pub seen : (c : ℕ) → c < 16 → seen s p c past ≡ asked s p c past
 
+-- a processor that spins still at the close waits for a lock, owes nothing and has seen every ask
 pub closed_stuck : (s : Script) (limit : ℕ) (p : CpuNo) (past : List Event) → IsClosed s limit p past → spins_still (own_of s p past) ≡ true →
     IsStuck s p past
 closed_stuck s limit p past k h =
@@ -190,9 +203,11 @@ closed_either s limit p past k = go (rests (own_of s p past)) refl (closed_done 
     go true e h = inl e
     go false e h = inr h
 
+-- a processor at rest has no innermost frame
 pub rest_inner : (s : Script) (p : CpuNo) (past : List Event) → IsAtRest s p past → innermost (frames_of s p past) ≡ None
 rest_inner s p past k = clear_inner s p past k.clear
 
+-- a processor at rest stands at level 0
 pub rest_level : (s : Script) (p : CpuNo) (past : List Event) → IsAtRest s p past → level_at (own_of s p past) ≡ 0
 rest_level s p past k = ap (λ (o : Option Frame). option_map_or (λ f. f.level) o 0) (rest_inner s p past k)
 
@@ -208,20 +223,25 @@ served_all s p c past k l d w =
     let a = k.seen c l in
     omega (arith, v, u, n, a, w)
 
+-- an interrupt class above 0 is above the level of a processor at rest
 low_level : (s : Script) (p : CpuNo) (c : ℕ) (past : List Event) → IsAtRest s p past → nat_lt 0 c ≡ true → nat_lt (level_at (own_of s p past)) c ≡ true
 low_level s p c past k h = subst (λ (n : ℕ). nat_lt n c ≡ true) (sym (rest_level s p past k)) h
 
+-- a processor at rest has no dispatch interrupt due and owes no sweep of the timers
 drained : (s : Script) (p : CpuNo) (past : List Event) → IsAtRest s p past → (is_due (own_of s p past) 2 ≡ false) × (owes_sweep p past ≡ false)
 drained s p past k =
     neither (is_due (own_of s p past) 2) (owes_sweep p past)
     (second_fails (nat_lt (level_at (own_of s p past)) 2) (is_due (own_of s p past) 2 || owes_sweep p past) (low_level s p 2 past k refl) k.idle.drain)
 
+-- a processor at rest owes no sweep of the timers
 pub no_sweep : (s : Script) (p : CpuNo) (past : List Event) → IsAtRest s p past → owes_sweep p past ≡ false
 no_sweep s p past k = (drained s p past k).1
 
+-- on a processor at rest class 2, that of dispatching, isn't wanted
 pub none_wanted_2 : (s : Script) (p : CpuNo) (past : List Event) → IsAtRest s p past → IsWanted s p 2 past → ⊥
 none_wanted_2 s p past k w = served_all s p 2 past k (omega arith) (drained s p past k).0 w
 
+-- on a processor at rest class 0, that of threaded DPCs, isn't wanted
 pub none_wanted_0 : (s : Script) (p : CpuNo) (past : List Event) → IsAtRest s p past → IsWanted s p 0 past → ⊥
 none_wanted_0 s p past k w = served_all s p 0 past k (omega arith) due w
   where
@@ -242,5 +262,6 @@ pub no_interrupt : (s : Script) (p : CpuNo) (c : ℕ) (past : List Event) → Is
 no_interrupt s p c past k i h =
     second_fails (nat_lt (level_at (own_of s p past)) c) (is_due (own_of s p past) c) (low_level s p c past k h) (k.idle.interrupts c i)
 
+-- on a processor at rest class 13, that of the clock interrupt, isn't wanted
 pub none_wanted_13 : (s : Script) (p : CpuNo) (past : List Event) → IsAtRest s p past → IsWanted s p 13 past → ⊥
 none_wanted_13 s p past k w = served_all s p 13 past k (omega arith) (no_interrupt s p 13 past k refl refl) w

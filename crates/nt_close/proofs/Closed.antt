@@ -32,6 +32,7 @@ use Rattle.nt_close.proofs.Spinning.{none_at_spin}
 
 -- ---- no DPC is pending
 
+-- at the close no DPC is pending in the queue of a processor that rests
 pub no_dpc_is_left : (s : Script) (limit : ℕ) (p : CpuNo) (past : List Event) → IsClosed s limit p past → rests (own_of s p past) ≡ true →
     pending s p past ≡ []
 no_dpc_is_left s limit p past k q = go (pending s p past) refl
@@ -50,6 +51,7 @@ no_dpc_is_left s limit p past k q = go (pending s p past) refl
     go [] e = e
     go (x ∷ xs) e = absurd (one x (there x xs e) x.part refl)
 
+-- at the close no DPC of the part is the first in the queue of a processor that rests
 none_first : (s : Script) (limit : ℕ) (p : CpuNo) (part : Part) (d : DpcNo) (past : List Event) → IsClosed s limit p past →
     rests (own_of s p past) ≡ true →
     is_first_dpc part d (queue_at (lanes_at s past) p) ≡ false
@@ -59,34 +61,42 @@ none_first s limit p part d past k q =
 
 -- ---- nothing is eligible
 
+-- an "and" is false if its first side is false
 fails_first : (a b : Bool) → a ≡ false → (a && b) ≡ false
 fails_first true b h = cc
 fails_first false b h = refl
 
+-- an "and" is false if its second side is false
 fails_second : (a b : Bool) → b ≡ false → (a && b) ≡ false
 fails_second true b h = h
 fails_second false b h = refl
 
+-- an "and" is false if its second side is false whenever its first is true
 tested_then : (a b : Bool) → (a ≡ true → b ≡ false) → (a && b) ≡ false
 tested_then true b h = h refl
 tested_then false b h = refl
 
+-- an interrupt class is above 0
 above_0 : (c : ℕ) → is_interrupt_level c ≡ true → nat_lt 0 c ≡ true
 above_0 zero h = h
 above_0 (suc c) h = lt-ltb 0 (suc c) (omega arith)
 
+-- the thread part of a processor at rest is empty
 no_part : (s : Script) (p : CpuNo) (past : List Event) → IsAtRest s p past → thread_part (frames_of s p past) ≡ []
 no_part s p past k =
     ap (λ (o : Option ThreadNo). option_map_or (frames_in (frames_of s p past).threads) o []) k.clear.running
 
+-- a processor at rest doesn't stand at the base of a thread
 not_at_base : (s : Script) (p : CpuNo) (past : List Event) → IsAtRest s p past → is_at_base (own_of s p past) ≡ false
 not_at_base s p past k =
     ap (λ (o : Option Frame). option_map_or (λ f. is_base_body f.body) o false) (rest_inner s p past k)
 
+-- a processor at rest isn't on a thread
 not_on_thread : (s : Script) (p : CpuNo) (past : List Event) → IsAtRest s p past → is_on_thread (frames_of s p past) ≡ false
 not_on_thread s p past k =
     fails_second (is_null (own_frames p past)) _ (ap (λ (fs : List Frame). not (is_null fs)) (no_part s p past k))
 
+-- at the close no request is eligible on a processor that rests
 none_at_rest : (s : Script) (limit : ℕ) (p : CpuNo) (past : List Event) (r : Request) → IsClosed s limit p past → rests (own_of s p past) ≡ true →
     eligible s p r past ≡ false
 none_at_rest s limit p past (IntRequest level) k q =
@@ -105,6 +115,7 @@ none_at_rest s limit p past (UserApcRequest a) k q =
 none_at_rest s limit p past (FlushRequest a) k q =
     fails_second _ _ (fails_second _ _ (fails_first (is_at_base (own_of s p past)) _ (not_at_base s p past (closed_rests s limit p past k q))))
 
+-- at the close no request is eligible on a processor that isn't cut
 pub nothing_is_eligible : (s : Script) (limit : ℕ) (p : CpuNo) (past : List Event) (r : Request) → IsClosed s limit p past → eligible s p r past ≡ false
 nothing_is_eligible s limit p past r k = go (closed_either s limit p past k)
   where

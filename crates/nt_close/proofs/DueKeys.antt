@@ -58,12 +58,14 @@ abbrev pub has_key : Script → TimerKey → Bool
 has_key s (OfTimer t) = nat_lt t.0 (length s.timers)
 has_key s (OfDelay t) = nat_lt t.0 (length s.threads)
 
+-- for a key that the script has, the table of the timers holds the key's own setting
 set_there : (s : Script) (key : TimerKey) (past : List Event) → has_key s key ≡ true → setting_at key (timers_at s past) ≡ set_at s key past
 set_there s (OfTimer t) past h =
     get_or-table (length s.timers) t.0 (λ t. timer_setting (timer t) past) None (ltb-true t.0 (length s.timers) h)
 set_there s (OfDelay t) past h =
     get_or-table (length s.threads) t.0 (λ t. delay_setting s (thread t) past) None (ltb-true t.0 (length s.threads) h)
 
+-- at an index that isn't below the length a table of settings has no setting
 none_past : {A : Type 0} (n i : ℕ) (xs : List (Option Setting)) (x : Setting) → length xs ≡ n → nat_lt i n ≡ false → get_or xs i None ≡ Some x → A
 none_past n i xs x e l h =
     let b : n ≤ i = ltb-false i n l in
@@ -120,9 +122,11 @@ first_is_due s past k e =
 
 -- ---- what an event leaves owed
 
+-- whether a processor owes a sweep after an event of its own is told by the event and what it owed before
 sweep_own : (p : CpuNo) (e : Event) (past : List Event) → is_of e p ≡ true → owes_sweep p (e ∷ past) ≡ sweep_after e.what (owes_sweep p past)
 sweep_own p e past o = rw o refl
 
+-- an event is of the processor that it names as its own
 itself : (e : Event) → is_of e e.cpu ≡ true
 itself e = eq-eqb e.cpu.0 e.cpu.0 refl
 
@@ -149,6 +153,7 @@ clean_13 s p past (inl k) = let n = k.0 in absurd (omega (arith, n))
 clean_13 s p past (inr (inl k)) = let n = k.0 in absurd (omega (arith, n))
 clean_13 s p past (inr (inr k)) = let n = k.0 in absurd (omega (arith, n))
 
+-- an event that serves class 13 on its processor leaves a sweep owed there
 serves_13 : (s : Script) (limit : ℕ) (p : CpuNo) (e : Event) (past : List Event) → IsLegal s limit e past → is_of e p ≡ true → serves 13 e.what ≡ true →
     sweep_after e.what (owes_sweep e.cpu past) ≡ true
 serves_13 s limit p e past g o h = go e.what refl h
@@ -211,6 +216,7 @@ due_before s limit key e past g k h =
 
 -- ---- an event that makes a key due
 
+-- in a run, after a clock call that is done, the clock interrupt is wanted or a sweep is owed
 pub clock_owes : (s : Script) (limit : ℕ) (e : Event) (past : List Event) (f units : ℕ) → IsRun s limit (e ∷ past) → e.what ≡ Call f (Clock units) Done →
     IsOwed s (e ∷ past)
 clock_owes s limit e past f units r i =
@@ -242,6 +248,7 @@ reached_answers {A} x r level m a true e h = go (is_some (deliverable x.apcs r l
     go false h = cc
 reached_answers x r level m a false e h = cc
 
+-- a delay whose due time is reached already doesn't block
 pub delay_blocks : {A : Type 0} (s : Script) (limit : ℕ) (e : Event) (past : List Event) (f : ℕ) (m : Mode) (a : Bool) (units : ℕ) → IsLegal s limit e past →
     e.what ≡ Call f (Delay m a units) Blocked → time past + units ≤ time past → A
 delay_blocks s limit e past f m a units g i d =
@@ -251,6 +258,7 @@ delay_blocks s limit e past f m a units g i d =
     reached_answers (facts_of (lanes_at s past) (stand_at s e.cpu past).thread) (stand_at s e.cpu past).regions (stand_at s e.cpu past).level m a
     (is_reached (time past) (time past + units)) (le-leb (time past + units) (time past) d) (sym replied)
 
+-- a wait that is taken up again after its due time is reached doesn't block
 pub rewait_blocks : {A : Type 0} (s : Script) (e : Event) (past : List Event) (f due : ℕ) →
     (k : KnownRewait e.cpu (own_of s e.cpu past) (lanes_at s past) f Blocked) → k.wait.due ≡ Some due → due ≤ time past → A
 rewait_blocks s e past f due k o d =

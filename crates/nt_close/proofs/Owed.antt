@@ -35,6 +35,7 @@ use Rattle.nt_event.specs.Jobs.{rests, spins_still}
 
 -- ---- timers
 
+-- case: the key is that of a timer; if it is due after an event, some processor wants the clock or owes a sweep
 timer_step : (s : Script) (limit : ℕ) (t : TimerNo) (x : Setting) (e : Event) (past : List Event) → IsRun s limit (e ∷ past) → has_key s (OfTimer t) ≡ true →
     (IsDueAt s (OfTimer t) past → IsOwed s past) → timer_setting t (e ∷ past) ≡ Some x → x.due ≤ time (e ∷ past) → IsOwed s (e ∷ past)
 timer_step s limit t x e past r has ih h d = go e.what refl h d
@@ -70,6 +71,7 @@ timer_step s limit t x e past r has ih h d = go e.what refl h d
 
 -- ---- delays
 
+-- case: the key is that of a delay; if it is due after an event, some processor wants the clock or owes a sweep
 delay_step : (s : Script) (limit : ℕ) (t : ThreadNo) (x : Setting) (e : Event) (past : List Event) → IsRun s limit (e ∷ past) → has_key s (OfDelay t) ≡ true →
     (IsDueAt s (OfDelay t) past → IsOwed s past) → delay_setting s t (e ∷ past) ≡ Some x → x.due ≤ time (e ∷ past) → IsOwed s (e ∷ past)
 delay_step s limit t x e past r has ih h d = go e.what refl h d
@@ -122,6 +124,7 @@ delay_step s limit t x e past r has ih h d = go e.what refl h d
 
 -- ---- in a run
 
+-- in a run each due key, not only the first, is owed: some processor wants the clock or owes a sweep
 due_owed : (s : Script) (limit : ℕ) (key : TimerKey) (past : List Event) → IsRun s limit past → IsDueAt s key past → IsOwed s past
 due_owed s limit (OfTimer t) [] r k = let h = k.is_set in cc
 due_owed s limit (OfDelay t) [] r k = let h = k.is_set in cc
@@ -130,11 +133,13 @@ due_owed s limit (OfTimer t) (e ∷ past) r k =
 due_owed s limit (OfDelay t) (e ∷ past) r k =
     delay_step s limit t k.setting e past r k.has (λ i. due_owed s limit (OfDelay t) past r.1 i) k.is_set k.due
 
+-- in a run, while a key is due, some processor wants the clock interrupt or owes a sweep
 pub a_due_key_is_owed : (s : Script) (limit : ℕ) (k : SetKey) (past : List Event) → IsRun s limit past → first_due (timers_at s past) ≡ Some k → IsOwed s past
 a_due_key_is_owed s limit k past r h = due_owed s limit k.key past r (first_is_due s past k h)
 
 -- ---- at the close
 
+-- in a settled run no key is left due if no processor is cut or spins still
 pub no_due_key_is_left : (s : Script) (limit : ℕ) (past : List Event) → IsRun s limit past → is_settled s limit past ≡ true →
     ((p : CpuNo) → nat_lt p.0 s.cpus ≡ true → (is_cut limit (own_of s p past) ≡ false) × (spins_still (own_of s p past) ≡ false)) →
     first_due (timers_at s past) ≡ None

@@ -45,6 +45,7 @@ pub record IsNew (s : Script) (p : CpuNo) (n : ℕ) (by : CpuNo) (w : What) (obj
   pub queue : ((queue_for (object_in objects dpc).target by).0 == p.0) ≡ true
   pub insert : new_insert s dpc n (object_in objects dpc) ≡ x
 
+-- an insert that is in a queue after an event dropped one was in the queue before
 dropped_contains : (p by : CpuNo) (w : What) (o : Option DpcNo) (objects : List ObjectState) (xs : List Insert) (x : Insert) →
     Contains (drop_insert p by w o objects xs) x → Contains xs x
 dropped_contains p by w None objects xs x h = h
@@ -54,6 +55,7 @@ dropped_contains p by w (Some d) objects xs x h = go (is_queue (left_queue by w 
     go true h = (kept_contains (λ x. not (is_of_dpc d x)) xs x h).0
     go false h = h
 
+-- an insert that is in a queue after an event added one was added by it or was there before
 added_contains : (s : Script) (p : CpuNo) (n : ℕ) (by : CpuNo) (w : What) (o : Option DpcNo) (objects : List ObjectState) (xs : List Insert) (x : Insert) →
     inserted_dpc w ≡ o → Contains (add_insert s p n by o objects xs) x → IsNew s p n by w objects x ⊎ Contains xs x
 added_contains s p n by w None objects xs x i h = inr h
@@ -72,6 +74,7 @@ added_contains s p n by w (Some d) objects xs x i h =
 abbrev pub NewAt : Script → CpuNo → Event → List Event → Insert → Type 0
 NewAt s p e past x = IsNew s p (length past) e.cpu e.what (objects_at s past) x
 
+-- a DPC that is pending after an event was inserted by it or was pending before
 pub pending_kept : (s : Script) (p : CpuNo) (e : Event) (past : List Event) (x : Insert) → Contains (pending s p (e ∷ past)) x → NewAt s p e past x ⊎
     Contains (pending s p past) x
 pending_kept s p e past x h =
@@ -111,20 +114,24 @@ and_none : (b : Bool) → (b && false) ≡ false
 and_none true = refl
 and_none false = refl
 
+-- an event that inserts a DPC serves no class
 inserts_serve : (c : ℕ) (w : What) (d : DpcNo) → inserted_dpc w ≡ Some d → serves c w ≡ false
 inserts_serve c (Call f (Queue x) Yes) d i = and_none (c == 12)
 inserts_serve c (Fire x Yes) d i = refl
 inserts_serve c w d i = cc
 
+-- asking a processor for a class asks that processor for that class
 asked_one : (q p : CpuNo) (c : ℕ) → (q.0 == p.0) ≡ true → list_any (is_ask p c) (ask q c) ≡ true
 asked_one q p c h = rw (h, eq-eqb c c refl) refl
 
+-- two parts that pass the test for equality are the same
 part_is : (part other : Part) → same_part part other ≡ true → other ≡ part
 part_is OrdinaryPart OrdinaryPart h = refl
 part_is ThreadedPart ThreadedPart h = refl
 part_is OrdinaryPart ThreadedPart h = cc
 part_is ThreadedPart OrdinaryPart h = cc
 
+-- an insert that an event makes is in the part of its DPC
 new_part : (s : Script) (p : CpuNo) (e : Event) (past : List Event) (part : Part) (x : Insert) → (k : NewAt s p e past x) → is_in part x ≡ true →
     part_of s k.dpc ≡ part
 new_part s p e past part x k h =
@@ -132,6 +139,7 @@ new_part s p e past part x k h =
 
 -- ---- threaded DPCs
 
+-- case: the event inserts a threaded DPC; class 0 is wanted on its processor after it
 new_threaded : (s : Script) (limit : ℕ) (p : CpuNo) (e : Event) (past : List Event) (x : Insert) → IsRun s limit past → is_in ThreadedPart x ≡ true →
     NewAt s p e past x → IsWanted s p 0 (e ∷ past)
 new_threaded s limit p e past x r t k =
@@ -151,6 +159,7 @@ cleans_threaded s p past x has (inl k) c t = let n = k.0 in absurd (omega (arith
 cleans_threaded s p past x has (inr (inl k)) c t = let n = k.0 in absurd (omega (arith, n))
 cleans_threaded s p past x has (inr (inr k)) c t = both_ways (is_in ThreadedPart x) (none_first s p past ThreadedPart x has k.2 c) t
 
+-- no event of a processor serves class 0 while a threaded DPC is pending there
 serves_threaded : (s : Script) (limit : ℕ) (p : CpuNo) (e : Event) (past : List Event) (x : Insert) → nat_lt p.0 s.cpus ≡ true → IsLegal s limit e past →
     Contains (pending s p past) x → is_in ThreadedPart x ≡ true → is_of e p ≡ true → serves 0 e.what ≡ false
 serves_threaded s limit p e past x has g c t o = go (serves 0 e.what) refl
@@ -162,6 +171,7 @@ serves_threaded s limit p e past x has g c t o = go (serves 0 e.what) refl
         let k = subst (λ (w : What). is_next w ≡ true → Known s p (own_of s p past) (lanes_at s past) w) w (known_here s limit p e past o g) in
         absurd (cleans_threaded s p past x has (k refl) c t)
 
+-- in a run, while a threaded DPC is pending on a processor, class 0 is wanted there
 pub threaded_wanted : (s : Script) (limit : ℕ) (p : CpuNo) (x : Insert) (past : List Event) → IsRun s limit past → nat_lt p.0 s.cpus ≡ true →
     Contains (pending s p past) x → is_in ThreadedPart x ≡ true → IsWanted s p 0 past
 threaded_wanted s limit p x [] r has c t = contains_none x c
@@ -173,6 +183,7 @@ threaded_wanted s limit p x (e ∷ past) r has c t =
 
 -- ---- ordinary DPCs
 
+-- an insert from another processor asks an idle one for class 2, whatever its importance
 insert_wakes : (i : Importance) (own deep idle : Bool) → own ≡ false → idle ≡ true → insert_asks i own deep idle ≡ true
 insert_wakes Low own true idle a b = refl
 insert_wakes Low own false idle a b = rw (a, b) refl
@@ -228,9 +239,11 @@ new_ordinary s limit p e past x r has other rests t k =
         ap (λ (b : Bool). list_any (is_ask p 2) (ask_if b q 2))
         (insert_wakes o.importance (q.0 == e.cpu.0) deep (queue_at (lanes_at s past) q).idle not_own idle) ∙ asked_one q p 2 k.queue
 
+-- a Rest leaves the pending DPCs as they were
 rest_keeps : (s : Script) (p : CpuNo) (e : Event) (past : List Event) → e.what ≡ Rest → pending s p (e ∷ past) ≡ pending s p past
 rest_keeps s p e past w = rw w refl
 
+-- in a run, while an ordinary DPC is pending on a processor that rests, class 2 is wanted there
 pub ordinary_wanted : (s : Script) (limit : ℕ) (p : CpuNo) (x : Insert) (past : List Event) → IsRun s limit past → nat_lt p.0 s.cpus ≡ true → rested p past
     ≡ true → Contains (pending s p past) x → is_in OrdinaryPart x ≡ true → IsWanted s p 2 past
 ordinary_wanted s limit p x [] r has h c t = contains_none x c

@@ -50,6 +50,7 @@ use Rattle.nt_thread.proofs.Runs.{quiet-after}
 use Rattle.nt_event.specs.Quiet.{IsQuiet, NothingBehind, QuietDoing}
 use Rattle.nt_thread.specs.Runs.{Alerts, EndsDelay, Inserts, Leaves, Releases, Removes, Takes, TestsAlert, Wait, Waits}
 
+-- if nothing is deliverable behind either of two thread states, nothing is behind the one that a test picks
 quiet_if : (b : Bool) (x y : ThreadFacts) → NothingBehind x → NothingBehind y → NothingBehind (if b then y else x)
 quiet_if true x y h k = k
 quiet_if false x y h k = h
@@ -64,10 +65,12 @@ quiet_wait w None x y e h =
 quiet_wait w (Some r) x y e h =
     subst (λ (y : Reply). NothingBehind (waited w.number w.regions w.level w.mode w.alertable (is_some w.reached) y x)) (sym e) h
 
+-- mapping an option keeps whether it is there
 same_some : (f : ℕ → Bool) (o : Option ℕ) → is_some (option_map f o) ≡ is_some o
 same_some f None = refl
 same_some f (Some n) = refl
 
+-- case: the thread takes up its wait again; nothing is deliverable behind it after the reply
 quiet_rewait : (s : Script) (e : Event) (past : List Event) (f : ℕ) (y : Reply) (x : ThreadFacts) → facts_of (lanes_at s past) (running e.cpu past) ≡ x →
     KnownRewait e.cpu (own_of s e.cpu past) (lanes_at s past) f y → NothingBehind x →
     NothingBehind (waited_again (length past) (stand_at s e.cpu past).regions (stand_at s e.cpu past).level (stand_at s e.cpu past).again y x)
@@ -96,6 +99,7 @@ quiet_rewait s e past f y x same k h =
         k.reply ∙ ap (λ (x : ThreadFacts). wait_reply x (stand_at s e.cpu past).regions (stand_at s e.cpu past).level k.wait.mode k.wait.alertable
         (option_map (is_reached (lanes_at s past).timers.now) k.wait.due)) same
 
+-- case: a frame of the thread ends; nothing is deliverable behind it after the end
 quiet_ended : (b : Option Body) (x : ThreadFacts) → NothingBehind x → NothingBehind (frame_ended b x)
 quiet_ended (Some (OnBase t)) x h = quiet-after Leaves x h
 quiet_ended (Some (OnApc a UserApc)) x h = quiet-after (TestsAlert UserMode) x h
@@ -111,6 +115,7 @@ runs_there s limit t e past w has g of k field =
     ∙ (sym (thread_named s limit e past g) ∙ same_thread e.thread t by)) in
     ap (λ (o : Option ThreadNo). option_map_or (facts_at (lanes_at s past)) o start_facts) run ∙ facts_there s limit t past has
 
+-- case: the event is of the thread itself; it leaves nothing deliverable behind a block
 made_quiet : (s : Script) (limit : ℕ) (t : ThreadNo) (e : Event) (past : List Event) → has_thread s t ≡ true → IsLegal s limit e past → is_of_thread s t e
     ≡ true → NothingBehind (facts s t past) → (w : What) → e.what ≡ w → NothingBehind (made_facts s (length past) (stand_at s e.cpu past) w (facts s t past))
 made_quiet s limit t e past has g of h w k = go w k
@@ -154,6 +159,7 @@ made_quiet s limit t e past has g of h w k = go w k
 
 -- ---- events that name the thread
 
+-- an insert of an APC that is accepted is of an APC that its owner's queues take
 inserted_takes : (s : Script) (limit : ℕ) (t : ThreadNo) (e : Event) (past : List Event) (f : ℕ) (a : ApcNo) → has_thread s t ≡ true → IsLegal s limit e past →
     e.what ≡ Call f (InsertApc a) Yes → ((owner_of s a).0 == t.0) ≡ true → takes a (facts s t past).apcs ≡ true
 inserted_takes s limit t e past f a has g k o =
@@ -171,6 +177,7 @@ inserted_takes s limit t e past f a has g k o =
     there : facts_at (lanes_at s past) (owner_of s a) ≡ facts s t past
     there = ap (facts_at (lanes_at s past)) owner ∙ facts_there s limit t past has
 
+-- case: an APC that the queues take is inserted; nothing is deliverable behind the block after it
 quiet_insert : (s : Script) (a : ApcNo) (n : ℕ) (x : ThreadFacts) → NothingBehind x → takes a x.apcs ≡ true → NothingBehind (insert_facts (new_pick s a n) x)
 quiet_insert s a n x h k =
     subst (λ (b : Bool). NothingBehind (if b then insert_facts (new_pick s a n) x else x)) k (quiet-after (Inserts (new_pick s a n)) x h)
@@ -196,6 +203,7 @@ named_quiet s t n w x k h = h
 
 -- ---- in a run
 
+-- an event of a run, of whichever processor, leaves nothing deliverable behind a thread's block
 quiet_step : (s : Script) (limit : ℕ) (t : ThreadNo) (e : Event) (past : List Event) → has_thread s t ≡ true → IsLegal s limit e past →
     NothingBehind (facts s t past) → NothingBehind (facts s t (e ∷ past))
 quiet_step s limit t e past has g h = go (is_of_thread s t e) refl
@@ -221,10 +229,12 @@ quiet_step s limit t e past has g h = go (is_of_thread s t e) refl
     go false of =
         subst (λ (x : ThreadFacts). NothingBehind x) (sym (after false of)) (named_quiet s t (length past) e.what (facts s t past) takes_here h)
 
+-- in a run nothing is deliverable behind what a thread of the script is doing
 pub quiet : (s : Script) (limit : ℕ) (t : ThreadNo) (past : List Event) → IsRun s limit past → has_thread s t ≡ true → NothingBehind (facts s t past)
 quiet s limit t [] r has = tt
 quiet s limit t (e ∷ past) r has = quiet_step s limit t e past has r.0 (quiet s limit t past r.1 has)
 
+-- in a run no kernel APC, and no user APC if the wait takes them, is deliverable to a blocked thread
 pub nothing_waits_behind_a_block : (s : Script) (limit : ℕ) (t : ThreadNo) (w : Waiting) (past : List Event) → IsRun s limit past → has_thread s t ≡ true →
     (facts s t past).doing ≡ IsBlocked w → IsQuiet w (facts s t past).apcs
 nothing_waits_behind_a_block s limit t w past r has d =

@@ -60,6 +60,7 @@ rest_unready s limit p t past has own h =
     let listed : is_ready (facts_at (lanes_at s past) t) ≡ false = ap (λ (n : ℕ). is_ready (facts_at (lanes_at s past) (thread n))) (sym n) ∙ k in
     ap is_ready (sym (facts_there s limit t past has)) ∙ listed
 
+-- a Rest leaves the facts of a thread as they were
 rest_keeps : (s : Script) (t : ThreadNo) (e : Event) (past : List Event) → e.what ≡ Rest → facts s t (e ∷ past) ≡ facts s t past
 rest_keeps s t e past w = facts-named s t (length past) (stand_at s e.cpu past) e (facts s t past) Rest w refl
 
@@ -75,6 +76,7 @@ other_names s p t e past own o =
     not_its : is_of_thread s t e ≡ false
     not_its = ap (λ (b : Bool). b && is_by e t) elsewhere
 
+-- in a run, while a thread is ready on a processor that rests, class 2 is wanted there
 pub ready_wanted : (s : Script) (limit : ℕ) (p : CpuNo) (t : ThreadNo) (past : List Event) → IsRun s limit past → has_thread s t ≡ true → (cpu_of s t).0
     ≡ p.0 → rested p past ≡ true → is_ready (facts s t past) ≡ true → IsWanted s p 2 past
 ready_wanted s limit p t [] r has own h k = cc
@@ -100,9 +102,11 @@ ready_wanted s limit p t (e ∷ past) r has own h k =
 
 -- ---- at the close
 
+-- no running thread at all isn't some running thread
 none_runs : (t : ThreadNo) → ◌≡◌ {A = Option ThreadNo} None (Some t) → ⊥
 none_runs t h = cc
 
+-- at the close each thread of a processor that rests is blocked or gone
 pub no_thread_is_left : (s : Script) (limit : ℕ) (p : CpuNo) (t : ThreadNo) (past : List Event) → IsClosed s limit p past →
     rests (own_of s p past) ≡ true → has_thread s t ≡ true →
     (cpu_of s t).0 ≡ p.0 → is_stopped (facts s t past).doing ≡ true

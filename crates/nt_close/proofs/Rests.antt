@@ -26,6 +26,7 @@ pub record IsClear (p : CpuNo) (past : List Event) : Type 0 where
   pub own : own_frames p past ≡ []
   pub running : running p past ≡ None
 
+-- an event that passes the test for Rest is a Rest
 pub is_rest_event : (w : What) → is_rest w ≡ true → w ≡ Rest
 is_rest_event Rest h = refl
 is_rest_event w h = cc
@@ -34,17 +35,21 @@ is_rest_event w h = cc
 pub rested_own : (p : CpuNo) (e : Event) (past : List Event) → is_of e p ≡ true → rested p (e ∷ past) ≡ true → e.what ≡ Rest
 rested_own p e past o h = is_rest_event e.what (rw o at h)
 
+-- a processor that rests after another processor's event rested before it
 pub rested_other : (p : CpuNo) (e : Event) (past : List Event) → is_of e p ≡ false → rested p (e ∷ past) ≡ true → rested p past ≡ true
 rested_other p e past o h = rw o at h
 
+-- if a list of frames has no first frame, it is empty
 no_head : (fs : List Frame) → head_of fs ≡ None → fs ≡ []
 no_head [] h = refl
 no_head (f ∷ fs) h = cc
 
+-- if an option, or another in its place, gives none, both are none
 none_of : {A : Type 0} (a b : Option A) → option_or a b ≡ None → (a ≡ None) × (b ≡ None)
 none_of None b h = (refl, h)
 none_of (Some x) b h = cc
 
+-- a list of frames with a thread's base has a first frame
 based_head : {A : Type 0} (t : ThreadNo) (fs : List Frame) → HasBase t fs → head_of fs ≡ None → A
 based_head t [] b h = absurd b
 based_head t (f ∷ fs) b h = cc
@@ -61,6 +66,7 @@ clear_of s limit p past r h =
     go None e = e
     go (Some t) e = based_head t (thread_part (frames_of s p past)) (running_has_base s limit p t past r e).2 parts.1
 
+-- a Rest of the processor itself keeps it free of frames and threads
 clear_rest : (p : CpuNo) (e : Event) (past : List Event) → is_of e p ≡ true → e.what ≡ Rest → IsClear p past → IsClear p (e ∷ past)
 clear_rest p e past o w h =
     record { own = own_same ∙ h.own; running = running_same ∙ h.running }
@@ -71,6 +77,7 @@ clear_rest p e past o w h =
     running_same : running p (e ∷ past) ≡ running p past
     running_same = rw (o, w) refl
 
+-- an event of another processor keeps a processor free of frames and threads
 clear_other : (p : CpuNo) (e : Event) (past : List Event) → is_of e p ≡ false → IsClear p past → IsClear p (e ∷ past)
 clear_other p e past o h = record { own = own_same ∙ h.own; running = running_same ∙ h.running }
   where
@@ -86,6 +93,7 @@ pub known_rest : (s : Script) (limit : ℕ) (p : CpuNo) (e : Event) (past : List
 known_rest s limit p e past o g w =
     subst (λ (w : What). is_next w ≡ true → Known s p (own_of s p past) (lanes_at s past) w) w (known_here s limit p e past o g) refl
 
+-- in a run a processor that rests has no frame of its own and runs no thread
 pub rested_clear : (s : Script) (limit : ℕ) (p : CpuNo) (past : List Event) → IsRun s limit past → rested p past ≡ true → IsClear p past
 rested_clear s limit p [] r h = record { own = refl; running = refl }
 rested_clear s limit p (e ∷ past) r h = go (is_of e p) refl (λ k. rested_clear s limit p past r.1 k)
@@ -96,6 +104,7 @@ rested_clear s limit p (e ∷ past) r h = go (is_of e p) refl (λ k. rested_clea
         clear_rest p e past o w (clear_of s limit p past r.1 (known_rest s limit p e past o r.0 w).none)
     go false o ih = clear_other p e past o (ih (rested_other p e past o h))
 
+-- a processor that has no frame of its own and runs no thread has no innermost frame
 pub clear_inner : (s : Script) (p : CpuNo) (past : List Event) → IsClear p past → innermost (frames_of s p past) ≡ None
 clear_inner s p past c =
     ap (λ (fs : List Frame). option_or (head_of fs) (head_of (thread_part (frames_of s p past)))) c.own

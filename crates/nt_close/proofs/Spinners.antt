@@ -53,6 +53,7 @@ use Rattle.nt_event.specs.Lists.{value_at}
 
 -- ---- a release asks each processor that spins
 
+-- a processor that the list marks as spinning on a freed lock is asked for class 12
 asked_spinner : (p : CpuNo) (n i : ℕ) (xs : List Bool) → p.0 ≡ n + i → get_or xs i false ≡ true → list_any (is_ask p 12) (spinner_asks n xs) ≡ true
 asked_spinner p n i [] e h = cc
 asked_spinner p n zero (b ∷ xs) e h =
@@ -216,6 +217,7 @@ module _ (s : Script) (limit : ℕ) (p : CpuNo) (k : LockNo) (e : Event) (past :
               asks_wanted s limit p 12 e past r q (released x i b (ap (λ (x : LockState). spins_at x p) (sym l) ∙ spun))
           pick false b = stay_same (moved (Frees x) i ∙ ap (λ (c : Bool). if c then record old { holder = None } else old) b)
 
+  -- if the lock that a processor spins on is free after an event, class 12 is wanted there after it
   pub wanted_step : IsWanted s p 12 (e ∷ past)
   wanted_step = go (is_of e p) (serves 12 e.what) refl refl
     where
@@ -227,6 +229,7 @@ module _ (s : Script) (limit : ℕ) (p : CpuNo) (k : LockNo) (e : Event) (past :
       go true false o h = unserved (λ z. h)
       go false c o h = unserved (λ z. no o z)
 
+-- in a run, while the lock that a processor spins on is free, class 12 is wanted there
 pub spun_wanted : (s : Script) (limit : ℕ) (p : CpuNo) (k : LockNo) (past : List Event) → IsRun s limit past → p.0 < s.cpus → k.0 < s.locks →
     spins_at (lock_of s k past) p ≡ true → (lock_of s k past).holder ≡ None → IsWanted s p 12 past
 spun_wanted s limit p k [] r below within spun free =
@@ -291,6 +294,7 @@ module _ (s : Script) (limit : ℕ) (p : CpuNo) (k : LockNo) (past : List Event)
           let z : (x.lock.0 == k.0) ≡ true = subst (λ (o : Option Held). spins_lock k sp.frame.held o ≡ true) e spun in
           hold ∙ (ap (λ (n : ℕ). list_any (λ h. h.lock.0 == n) sp.frame.held) (sym (eqb-true x.lock.0 k.0 z)) ∙ (sp.locked.retry x e).1)
 
+  -- at the close a lock that is spun on is held by another processor, which is cut or spins still
   pub held_elsewhere : IsHeldElsewhere s limit p k past
   held_elsewhere = go (held (lock_of s k past).holder refl)
     where

@@ -43,6 +43,7 @@ use Rattle.nt_runs.proofs.Running.{part_of_running, running_has_base, running_he
 use Rattle.nt_event.specs.Commands.{refuse}
 use Rattle.nt_event.specs.Numbers.{thread}
 
+-- if each frame of a list is locked to a processor, so is its first frame
 first_locked : (s : Script) (p : CpuNo) (fs : List Frame) (f : Frame) → Each (Locked s p) fs → head_of fs ≡ Some f → Locked s p f
 first_locked s p [] f h e = cc
 first_locked s p (g ∷ fs) f h e = let same : g ≡ f = cc in subst (Locked s p) same h.0
@@ -72,6 +73,7 @@ pub record IsSpinning (s : Script) (p : CpuNo) (past : List Event) : Type 0 wher
   pub spins : is_some frame.spin ≡ true
   pub level : level_at (own_of s p past) ≡ 2
 
+-- in a run a processor that waits for a lock stands at level 2, with an innermost frame that spins
 pub spinning : (s : Script) (limit : ℕ) (p : CpuNo) (past : List Event) → IsRun s limit past → waits_for_lock (own_of s p past) ≡ true → IsSpinning s p past
 spinning s limit p past r w = go (innermost (frames_of s p past)) refl (both _ _ w).0
   where
@@ -87,24 +89,29 @@ spinning s limit p past r w = go (innermost (frames_of s p past)) refl (both _ _
           level = ap (λ (o : Option Frame). option_map_or (λ f. f.level) o 0) e ∙ k.spun h;
         }
 
+-- an "and" whose second side is false is false
 fails_second : (a b : Bool) → b ≡ false → (a && b) ≡ false
 fails_second true b h = h
 fails_second false b h = refl
 
+-- an "and" whose first side is false is false
 fails_first : (a b : Bool) → a ≡ false → (a && b) ≡ false
 fails_first true b h = cc
 fails_first false b h = refl
 
+-- an "and" is false if its second side fails wherever its first holds
 tested_then : (a b : Bool) → (a ≡ true → b ≡ false) → (a && b) ≡ false
 tested_then true b h = h refl
 tested_then false b h = refl
 
+-- an "and" that is false stays false with its sides swapped
 turned : (a b : Bool) → (a && b) ≡ false → (b && a) ≡ false
 turned true true h = cc
 turned true false h = refl
 turned false true h = refl
 turned false false h = refl
 
+-- at a level above 0 no APC is deliverable
 none_deliverable : (q : ApcQueues) (r : Regions) (level : ℕ) → (level == 0) ≡ false → deliverable q r level ≡ None
 none_deliverable q r level h = go (first_kernel q)
   where
@@ -112,17 +119,20 @@ none_deliverable q r level h = go (first_kernel q)
     go None = refl
     go (Some x) = rw h refl
 
+-- a command that is refused doesn't go to user mode
 no_touser : (o : Option Command) (r : Option Refusal) → is_none r ≡ false → goes_to_user o r ≡ false
 no_touser (Some ToUser) r h = h
 no_touser (Some c) r h = refl
 no_touser None r h = refl
 
+-- a command that is too high is refused, whatever the tests before it say
 refused_above : (a b c : Bool) (o : Option Refusal) → c ≡ true → is_none (refuse a NotThread (refuse b NotBase (refuse c TooHigh o))) ≡ false
 refused_above true b c o h = refl
 refused_above false true c o h = refl
 refused_above false false true o h = refl
 refused_above false false false o h = cc
 
+-- if the base frame is leaving and is the innermost frame, it stands at level 0
 leaving_zero : (t : ThreadNo) (f : Frame) (fs : List Frame) → head_of fs ≡ Some f → is_base_body f.body ≡ true → HasBase t fs → AllCalm fs →
     base_leaving fs ≡ true → f.level ≡ 0
 leaving_zero t f [] e b h c l = absurd h
@@ -174,6 +184,7 @@ module _ (s : Script) (limit : ℕ) (p : CpuNo) (past : List Event) (r : IsRun s
       go true e = absurd (bad e)
       go false e = at ∙ e
 
+  -- no request is eligible on a processor that spins still and has seen every ask
   pub none_at_spin : (q : Request) → eligible s p q past ≡ false
   none_at_spin (IntRequest level) =
       tested_then (is_interrupt_level level) _ (λ i. turned (nat_lt (level_at (own_of s p past)) level) (is_due (own_of s p past) level)

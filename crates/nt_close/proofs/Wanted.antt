@@ -37,6 +37,7 @@ served_stays s p c e past h = go (is_of e p) refl
     go true o = rw (o, h o) refl
     go false o = rw o refl
 
+-- a class that is wanted on a processor stays so after an event that doesn't serve it there
 pub stays_wanted : (s : Script) (p : CpuNo) (c : ℕ) (e : Event) (past : List Event) → (is_of e p ≡ true → serves c e.what ≡ false) → IsWanted s p c past →
     IsWanted s p c (e ∷ past)
 stays_wanted s p c e past h w =
@@ -69,6 +70,7 @@ low_class c level l h e =
     go (suc (suc zero)) l h = h
     go (suc (suc (suc c))) l h = absurd (omega (arith, l))
 
+-- classes 0 to 2 are served by a Clean of the class only
 pub serves_clean : (s : Script) (limit : ℕ) (p : CpuNo) (c : ℕ) (e : Event) (past : List Event) → c ≤ 2 → IsLegal s limit e past → is_of e p ≡ true →
     serves c e.what ≡ true → e.what ≡ Clean c
 serves_clean s limit p c e past l g o h = go e.what refl h

@@ -27,14 +27,17 @@ none_of s limit p past o r h = ap (λ (x : Option Turn). is_none x) h ∙ go (ha
 abbrev Taken : Script → ℕ → List Event → Turn → Type 0
 Taken s limit past t = (e : Event) × (step s limit t past ≡ Ok e)
 
+-- a test fails if its negation holds
 not_true : (b : Bool) → not b ≡ true → b ≡ false
 not_true true h = absurd cc
 not_true false h = refl
 
+-- what holds of an option where it is there holds of it if it is some
 if_some : {A : Type 0} (P : A → Type 0) (o : Option A) → Holds P o → IfSome o P
 if_some P None h = tt
 if_some P (Some x) h = h
 
+-- after a run, the robin rule's turn for a processor of the script is taken by a step, if it has one
 pub taken_of : (s : Script) (limit : ℕ) (p : CpuNo) (past : List Event) (o : Option Turn) → IsRun s limit past → o
     ≡ when (has_cpu s p) (robin_of s limit p past) → IfSome o (λ t. (e : Event) × (step s limit t past ≡ Ok e))
 taken_of s limit p past o r h =

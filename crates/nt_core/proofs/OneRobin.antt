@@ -28,6 +28,7 @@ robin_is s limit (e ∷ past) r q =
 stays : (s : Script) (limit : ℕ) (h : List Event) → IsRun s limit h → is_settled s limit h ≡ true → further s limit h ≡ h
 stays s limit h r d = ap (robin_grown s limit h) ((robin_ends_settled s limit h r).1 d)
 
+-- with enough fuel for its length and more, the robin rule runs to the settled run that there is
 robin_more : (s : Script) (limit n : ℕ) (h : List Event) → IsWholeRobin s limit h → run_fuel s limit (n + length h) [] ≡ h
 robin_more s limit zero h w =
     let e : zero + length h ≡ length h = omega arith in
@@ -37,6 +38,7 @@ robin_more s limit (suc n) h w =
     ap (λ (m : ℕ). run_fuel s limit m []) e
     ∙ (last_too s limit (n + length h) [] ∙ (ap (further s limit) (robin_more s limit n h w) ∙ stays s limit h w.run w.settled))
 
+-- two settled runs of the robin rule with the same script and limit are the same history
 pub one_whole_robin : (s : Script) (limit : ℕ) (h k : List Event) → IsWholeRobin s limit h → IsWholeRobin s limit k → h ≡ k
 one_whole_robin s limit h k w x =
     let e : length k + length h ≡ length h + length k = omega arith in

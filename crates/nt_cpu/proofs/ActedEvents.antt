@@ -79,16 +79,19 @@ wait_chain false false false false true f = refl
 wait_chain false false false false false true = refl
 wait_chain false false false false false false = refl
 
+-- the reply that a wait gets is one that a wait may get
 wait_replies : (x : ThreadFacts) (r : Regions) (level : ℕ) (m : Mode) (a : Bool) (reached : Option Bool) → is_wait_reply (wait_reply x r level m a reached)
     ≡ true
 wait_replies x r level m a reached =
     wait_chain (is_some (deliverable x.apcs r level)) (is_satisfied x reached) (a && is_alerted m x) (a && (is_user m && has_user x.apcs))
     (a && x.alerted_kernel) (not a && (is_user m && x.user_pending))
 
+-- a yes-or-no reply lets the frame go on
 yes_unblocked : (b : Bool) → goes_on (yes_if b) ≡ true
 yes_unblocked true = refl
 yes_unblocked false = refl
 
+-- the reply that a call gets in the states is one that its command may get
 replies : (s : Script) (st : Stand) (l : Lanes) (k : Command) → may_reply k (reply s st l k) ≡ true
 replies s st l (StartWait m a) = wait_replies (facts_of l st.thread) st.regions st.level m a None
 replies s st l (Delay m a u) =
@@ -111,6 +114,7 @@ replies s st l _ = refl
 
 -- ---- the innermost frame
 
+-- the frame that a processor stands at is there, if it has an innermost frame
 at_innermost_frame : (c : CpuState) (f : Frame) → innermost c.own.frames ≡ Some f → IsAt (stand_in c.cpu c.own).frame c.own.frames
 at_innermost_frame c f k = record { frame = f; is = k; name = rw k refl }
 
@@ -119,6 +123,7 @@ at_innermost_frame c f k = record { frame = f; is = k; name = rw k refl }
 abbrev pub PicksFit : Script → ApcQueues → Type 0
 PicksFit s q = All (λ pick. pick.kind ≡ kind_of s pick.apc) q.pending
 
+-- the pending APCs of a thread fit the script if the kinds in the states do
 facts_fit : (s : Script) (l : Lanes) (t : ThreadNo) → KindsFit s l → PicksFit s (facts_at l t).apcs
 facts_fit s l t h = go (nat_lt t.0 (length l.threads)) refl
   where
@@ -128,25 +133,30 @@ facts_fit s l t h = go (nat_lt t.0 (length l.threads)) refl
         let q : length l.threads ≤ t.0 = grind (arith, nat_tests) in
         rw (get_or_past l.threads t.0 start_facts q) (All-nil (λ (pick : Pick). pick.kind ≡ kind_of s pick.apc))
 
+-- the pending APCs of an optional thread fit the script if the kinds in the states do
 thread_fits : (s : Script) (l : Lanes) (t : Option ThreadNo) → KindsFit s l → PicksFit s (facts_of l t).apcs
 thread_fits s l None h = All-nil (λ (pick : Pick). pick.kind ≡ kind_of s pick.apc)
 thread_fits s l (Some t) h = facts_fit s l t h
 
+-- what holds of all entries of a list holds of all entries of the reversed list
 all_reverse : {A : Type 0} (P : A → Type 0) (xs : List A) → All P xs → All P (reverse xs)
 all_reverse P [] h = All-nil P
 all_reverse P (x ∷ xs) h =
     rw (reverse-append (x ∷ []) xs) (All-push P (reverse xs) x (all_reverse P xs (All-tail P x xs h)) (All-head P x xs h))
 
+-- case: the entry in hand is the one found, or else the one found in the rest
 found_all : {A : Type 0} (P : A → Type 0) (test : A → Bool) (x : A) (o : Option A) (b : Bool) → test x ≡ b → P x → Holds (λ x. P x × (test x ≡ true)) o →
     Holds (λ x. P x × (test x ≡ true)) (cond b (Some x) o)
 found_all P test x o true e p h = (p, e)
 found_all P test x o false e p h = h
 
+-- an entry found in a list passes the test and has what all entries have
 find_all : {A : Type 0} (P : A → Type 0) (test : A → Bool) (xs : List A) → All P xs → Holds (λ x. P x × (test x ≡ true)) (find test xs)
 find_all P test [] h = tt
 find_all P test (x ∷ xs) h =
     found_all P test x (find test xs) (test x) refl (All-head P x xs h) (find_all P test xs (All-tail P x xs h))
 
+-- APC kinds that test equal are the same
 same_kind_is : (k m : ApcKind) → same_kind k m ≡ true → m ≡ k
 same_kind_is SpecialApc SpecialApc h = refl
 same_kind_is NormalApc NormalApc h = refl
@@ -173,6 +183,7 @@ first_here s q h =
     (holds_more _ _ (first_of_kind SpecialApc q) (kind_here s SpecialApc q h) (λ x e k. (k.0 ∙ sym k.1, rw k.1 refl)))
     (λ _. holds_more _ _ (first_of_kind NormalApc q) (kind_here s NormalApc q h) (λ x e k. (k.0 ∙ sym k.1, rw k.1 refl)))
 
+-- a deliverable APC is of a kernel kind that the thread's regions let through
 kernel_here : (s : Script) (q : ApcQueues) (r : Regions) (level : ℕ) → PicksFit s q → Holds (IsKernelPick s r) (deliverable q r level)
 kernel_here s q r level h =
     holds_then (IsKernelPick s r) (λ x. when ((level == 0) && lets_through r x.kind) (Some x)) (first_kernel q)
@@ -182,15 +193,18 @@ kernel_here s q r level h =
 
 -- ---- the events
 
+-- the begin of the first ordinary DPC of a queue is allowed if the frames allow each ordinary DPC
 begun_dpc : (c : CpuState) (q : QueueState) → ((d : DpcNo) → may_begin (OnDpc d) c.own.frames ≡ true) → Holds (GoodEvent c) (begin_first OrdinaryPart q)
 begun_dpc c q h =
     holds_map (GoodEvent c) (begin_dpc OrdinaryPart) (first_dpc OrdinaryPart q.pending) (λ x e. record { allow = h x.dpc; look = refl })
 
+-- the begin of the first threaded DPC of a queue is allowed if the frames allow each threaded DPC
 begun_threaded : (c : CpuState) (q : QueueState) → ((d : DpcNo) → may_begin (OnThreaded d) c.own.frames ≡ true) →
     Holds (GoodEvent c) (begin_first ThreadedPart q)
 begun_threaded c q h =
     holds_map (GoodEvent c) (begin_dpc ThreadedPart) (first_dpc ThreadedPart q.pending) (λ x e. record { allow = h x.dpc; look = refl })
 
+-- what a processor does next to drain its DPCs and timers is allowed by the frames if it may drain
 drain_good : (c : CpuState) (l : Lanes) → may_drain c.own ≡ true → GoodEvent c (drain_event (stand_in c.cpu c.own) l)
 drain_good c l k =
     holds_else (GoodEvent c) (option_or (option_map expire_key (when (stand_in c.cpu c.own).sweep (first_due l.timers)))
@@ -199,6 +213,7 @@ drain_good c l k =
     (holds_map (GoodEvent c) expire_key (when (stand_in c.cpu c.own).sweep (first_due l.timers)) (λ x e. record { allow = tt; look = refl }))
     (λ _. begun_dpc c (queue_at l c.cpu) (λ d. dpc_may_begin c.own d k))) (λ _. record { allow = tt; look = refl })
 
+-- what a processor does next to deliver kernel APCs is allowed by the frames if it may deliver them
 apcs_good : (c : CpuState) (l : Lanes) → may_apcs c.own ≡ true → KindsFit c.script l → GoodEvent c (apcs_event (stand_in c.cpu c.own) l)
 apcs_good c l k f =
     let st : Stand = stand_in c.cpu c.own in
@@ -209,6 +224,7 @@ apcs_good c l k f =
     (kernel_here c.script q st.regions st.level (thread_fits c.script l st.thread f)) e in
     record { allow = apc_may_begin c.own x.apc (kind_of c.script x.apc) k i.0 i.1; look = refl })) (λ _. record { allow = tt; look = refl })
 
+-- the event of an idle processor is allowed if it has no frame
 idle_good : (c : CpuState) (l : Lanes) → innermost c.own.frames ≡ None → Holds (GoodEvent c) (idle_event c.script (stand_in c.cpu c.own) l)
 idle_good c l k =
     holds_or (GoodEvent c) (begin_first OrdinaryPart (queue_at l c.cpu)) (when (is_null (ready c.script c.cpu l)) (Some Rest))
@@ -221,6 +237,7 @@ pub record IsFree (x : Frames) : Type 0 where
   pub running : x.running ≡ None
   pub innermost : innermost x ≡ None
 
+-- a processor that may switch has no frame, neither of its own nor of a running thread
 pub free : (x : Own) → may_switch x ≡ true → IsFree x.frames
 free x h =
     let a = both (is_none x.frames.running) (is_null x.frames.own && not (must x)) h in
@@ -237,6 +254,7 @@ free x h =
     none_is None e = refl
     none_is (Some y) e = absurd cc
 
+-- the switch to a thread that the processor may take is allowed by the frames
 taken_good : (c : CpuState) (l : Lanes) (t : ThreadNo) → IsSound c → may_switch c.own ≡ true → may_take c.script c.cpu t l ≡ true →
     GoodEvent c (switch_event t l)
 taken_good c l t h k m =
@@ -245,6 +263,7 @@ taken_good c l t h k m =
     let b : t.0 < length c.script.threads = grind (arith, nat_tests) in
     record { allow = (f.own, f.running, rw h.threads b); look = refl }
 
+-- the begin of the due user APC is allowed if a return to user mode is not refused
 user_here : (c : CpuState) (l : Lanes) → refusal_in ToUser c.own.frames ≡ None → KindsFit c.script l →
     Holds (GoodEvent c) (option_map begin_apc (user_due (facts_of l c.own.frames.running)))
 user_here c l a f =
@@ -254,18 +273,21 @@ user_here c l a f =
     (kind_here c.script UserApc x.apcs (thread_fits c.script l c.own.frames.running f)) g.1 in
     record { allow = rw k.1 (user_may_begin c.own.frames pick.apc a); look = refl })
 
+-- the rundown of a leaving thread is allowed by its frames
 rundown_good : (c : CpuState) (l : Lanes) (t : ThreadNo) → is_leaving c.own.frames ≡ true → GoodEvent c (rundown_event l t)
 rundown_good c l t k =
     holds_else (GoodEvent c) (option_map (λ x. Flush x.apc x.number) (first_user (facts_at l t).apcs)) (Gone t)
     (holds_map (GoodEvent c) (λ x. Flush x.apc x.number) (first_user (facts_at l t).apcs) (λ x e. record { allow = k; look = refl }))
     (λ _. record { allow = k; look = refl })
 
+-- the end of the innermost frame is allowed if that frame runs and is not of a leaving thread
 ended_good : (c : CpuState) → Runs c → GoodEvent c (End (stand_in c.cpu c.own).frame)
 ended_good c g = record {
   allow = (at_innermost_frame c g.frame g.is, leaving_here g.frame c.own.frames g.is ∙ g.leaving);
   look = refl;
 }
 
+-- taking up a wait again is allowed if the innermost frame has a wait to take up
 rewait_good : (c : CpuState) (l : Lanes) → IsSound c → Awaits c → Holds (GoodEvent c) (job_event c.script (stand_in c.cpu c.own) l RewaitJob)
 rewait_good c l h g =
     let st : Stand = stand_in c.cpu c.own in
@@ -279,6 +301,7 @@ rewait_good c l h g =
       look = refl;
     })
 
+-- the event of a job that may be done is one that the frames allow, and no Look
 pub acted_good : (c : CpuState) (l : Lanes) (job : Job) → IsSound c → GoodJob c job → KindsFit c.script l →
     Holds (GoodEvent c) (job_event c.script (stand_in c.cpu c.own) l job)
 acted_good c l (CallJob k) h g f = record {

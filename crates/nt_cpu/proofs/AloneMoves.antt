@@ -49,6 +49,7 @@ found_by c v = record { lanes = told_states c.script v.states; told = v.told }
 abbrev pub asked_for : Option Asked → CpuNo → ℕ → Bool
 asked_for a q k = list_any (is_ask q k) (as_list a)
 
+-- a word is the asked one exactly if the request names its processor and class
 same_word : (a : Asked) (q : CpuNo) (k : ℕ) → is_word a.cpu a.class q k ≡ (is_ask q k (record { cpu = a.cpu; class = a.class }) || false)
 same_word a q k = go (q.0 == a.cpu.0) refl (k == a.class) refl
   where
@@ -56,14 +57,17 @@ same_word a q k = go (q.0 == a.cpu.0) refl (k == a.class) refl
         ≡ (((a.cpu.0 == q.0) && (a.class == k)) || false)
     go b e d f = grind (arith, nat_tests)
 
+-- the lists after a mark for an optional request are the old ones with that mark
 marked_lists : (a : Option Asked) (n : ℕ) (u z : View) → IsMarkedFor a n u z → z.lists ≡ with_marks n (as_list a) u.lists
 marked_lists None n u z h = ap (λ (x : View). x.lists) h
 marked_lists (Some a) n u z h = h.lists
 
+-- or with false changes nothing
 or_false : (b : Bool) → (b || false) ≡ b
 or_false true = refl
 or_false false = refl
 
+-- after a mark for an optional request a mark is set if it was set before or is the new one
 marked_marks : (a : Option Asked) (n : ℕ) (u z : View) → IsMarkedFor a n u z → (k : ℕ) (q : CpuNo) (d : ℕ) → HasWord u q d → z.marked k q d
     ≡ (u.marked k q d || ((k == n) && asked_for a q d))
 marked_marks None n u z h k q d w =
@@ -76,6 +80,7 @@ marked_marks None n u z h k q d w =
 marked_marks (Some a) n u z h k q d w =
     h.marked k q d w ∙ ap (λ (b : Bool). u.marked k q d || ((k == n) && b)) (same_word a q d)
 
+-- marking an event raises the words that it asks for to one above its number, and leaves the others
 pub marked_value : (a : Option Asked) (n : ℕ) (u z : View) → IsMarkedFor a n u z → (q : CpuNo) (d : ℕ) → HasWord u q d → z.value q d
     ≡ (if asked_for a q d then max (u.value q d) (n + 1) else u.value q d)
 marked_value None n u z h q d w = ap (λ (x : View). x.value q d) h
@@ -92,6 +97,7 @@ pub record Stays (v z : View) : Type 0 where
   pub next : z.next ≡ v.next
   pub drawable : z.drawable ≡ v.drawable
 
+-- marking an event leaves the processors, the lanes, what they tell, the next number and the numbers left
 pub marked_stays : (a : Option Asked) (n : ℕ) (u z : View) → IsMarkedFor a n u z → Stays u z
 marked_stays None n u z h = record {
   cpus = ap (λ (x : View). x.cpus) h;
@@ -110,6 +116,7 @@ marked_stays (Some a) n u z h = record {
   drawable = h.drawable;
 }
 
+-- where the states are told, they are the ones that were told before
 tells_after : (s : Script) (states z : Option Lanes) (m : Lanes) → z ≡ states → m ≡ told_states s states → Tells z m
 tells_after s states z m e h = rw e (go states h)
   where
@@ -117,6 +124,7 @@ tells_after s states z m e h = rw e (go states h)
     go None k = tt
     go (Some l) k = sym k
 
+-- the states that a floor tells are the ones that it is taken to have
 pub tells_before : (s : Script) (states : Option Lanes) → Tells states (told_states s states)
 tells_before s None = tt
 tells_before s (Some l) = refl
@@ -145,18 +153,22 @@ states_kept c None n e h b =
 states_kept c (Some l) n e h b =
     lanes_kept c.script n (stand_in c.cpu c.own) e l h.lanes b
 
+-- raising a value that is at most the number is the same by a maximum and by the test
 raise_value : (b alone : Bool) (n old : ℕ) → old ≤ n → (if b then max old (n + 1) else old) ≡ raised b n old
 raise_value true alone n old h = omega arith
 raise_value false alone n old h = refl
 
+-- raising by a test never lowers a value
 never_less : (b : Bool) (n old : ℕ) → old ≤ (if b then max old (n + 1) else old)
 never_less true n old = omega arith
 never_less false n old = omega arith
 
+-- a value raised by a test that holds is at least the new number
 at_least : (b : Bool) (n old : ℕ) → b ≡ true → n + 1 ≤ (if b then max old (n + 1) else old)
 at_least true n old h = omega arith
 at_least false n old h = cc
 
+-- an event that touches no lane moves the floor as contracts demand
 pub alone_moved : (c d : CpuState) (w : What) (n : ℕ) (v u z : View) → Serves c v → MayBe c w → IsAlone c d w n v u z →
     IsMoved c.script n (alone_event c.cpu w c.own.frames) (stand_in c.cpu c.own) (found_by c v) v z
 alone_moved c d w n v u z h m i =
@@ -204,23 +216,28 @@ abbrev pub AsksNone : What → Option Asked → Type 0
 AsksNone (Look r) a = a ≡ None
 AsksNone w a = Unit {0}
 
+-- a look asks for nothing
 asks_none : (st : Stand) (w : What) → AsksNone w (alone_asks st w)
 asks_none st (Look r) = refl
 asks_none st _ = tt
 
+-- case: what is noticed of a class that was not looked at, where nothing was asked
 noticed_of_none : (n k old : ℕ) (w : What) → looked w k ≡ 0 → max old 0 ≡ seen_after n w k false 0 old
 noticed_of_none n k old w e = rw e (omega arith)
 
+-- case: what is noticed of a class that was not looked at, where a request may have been made
 noticed_of_ask : (b : Bool) (n k old : ℕ) (w : What) → looked w k ≡ 0 → old ≤ n → max old (if b then n + 1 else 0) ≡ seen_after n w k (b || false) 0 old
 noticed_of_ask true n k old w e h = omega arith
 noticed_of_ask false n k old w e h = rw e (omega arith)
 
+-- the value seen of a class after an event is what was seen before or noticed by it
 noticed_seen : (p : CpuNo) (w : What) (a : Option Asked) (n k old : ℕ) → AsksNone w a → old ≤ n → max old (noticed p w a n k)
     ≡ seen_after n w k (asked_for a p k) 0 old
 noticed_seen p (Look r) a n k old h l = rw h (omega arith)
 noticed_seen p w None n k old h l = noticed_of_none n k old w refl
 noticed_seen p w (Some a) n k old h l = noticed_of_ask ((a.cpu.0 == p.0) && (a.class == k)) n k old w refl l
 
+-- after an event that touches no lane a processor keeps what it keeps by the states found
 pub alone_left : (c : CpuState) (w : What) (n : ℕ) (v : View) → IsSound c → MayBe c w → ((k : ℕ) → k < 16 → value_at c.own.seen k ≤ n) → alone_then c n w
     ≡ own_then c (found_by c v) n (alone_event c.cpu w c.own.frames)
 alone_left c w n v s m b =

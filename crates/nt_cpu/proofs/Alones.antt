@@ -39,10 +39,12 @@ use Rattle.nt_cpu.proofs.FramesLeft.{innermost-at_innermost, on_running_own, thr
 
 -- ---- asks
 
+-- a conditional request as a list is the optional request as a list
 ask_list : (b : Bool) (p : CpuNo) (k : ℕ) → ask_if b p k ≡ as_list (ask_when b p k)
 ask_list true p k = refl
 ask_list false p k = refl
 
+-- a call that touches no lane asks for what its own requests say
 asks_call : (s : Script) (st : Stand) (c : Command) (y : Reply) (l : Lanes) → (is_refused y || (not (needs_lane c) && is_done y)) ≡ true →
     command_asks s st c y l ≡ as_list (call_asks st c y)
 asks_call s st LeaveCrit Done l h = ask_list (st.regions.crit == 1) st.cpu 1
@@ -56,6 +58,7 @@ asks_call s st (Clock u) Done l h = absurd cc
 asks_call s st (Unlock k) Done l h = absurd cc
 asks_call s st _ _ l h = refl
 
+-- the end of a frame that touches no lane asks for APCs if a normal routine ended or a region was left
 asks_end : (st : Stand) (b : Option Body) (l : Lanes) → ends_alone b ≡ true → end_asks st b l
     ≡ as_list (ask_when (is_normal_end b || some_came_to_0 st.regions st.below) st.cpu 1)
 asks_end st (Some (OnApc a NormalApc)) l h = refl
@@ -73,6 +76,7 @@ asks_alone s st (End f) l h = asks_end st st.body l h
 asks_alone s st (Look r) l h = refl
 asks_alone s st _ l h = absurd cc
 
+-- a call that is done and needs no lane touches none
 lanes_call : (s : Script) (p : CpuNo) (c : Command) (y : Reply) (l : Lanes) → (not (needs_lane c) && is_done y) ≡ true → command_lanes s p c y l ≡ []
 lanes_call s p (Raise l) y m h = refl
 lanes_call s p (Lower l) y m h = refl
@@ -84,6 +88,7 @@ lanes_call s p (Interrupt q l) y m h = refl
 lanes_call s p (Note n) y m h = refl
 lanes_call s p _ y m h = absurd cc
 
+-- the end of a frame that ends alone touches no lane
 lanes_end : (p : CpuNo) (b : Option Body) → ends_alone b ≡ true → end_lanes p b ≡ []
 lanes_end p (Some (OnApc a UserApc)) h = absurd cc
 lanes_end p (Some (OnBase t)) h = absurd cc
@@ -104,12 +109,15 @@ lanes_alone s st _ l h = absurd cc
 
 -- ---- the level
 
+-- a change of the innermost frame makes its level the processor's level
 level_changed : (g : Frame → Frame) (x : Frames) (f : Frame) → AreNested x → innermost x ≡ Some f → level_in (at_innermost g x) ≡ (g f).level
 level_changed g x f h k = rw (innermost-at_innermost g x h, k) refl
 
+-- the level of a processor is that of its innermost frame
 level_here : (x : Frames) (f : Frame) → innermost x ≡ Some f → level_in x ≡ f.level
 level_here x f k = rw k refl
 
+-- without its innermost frame a processor has the level of the next frame
 level_ended : (x : Frames) → AreNested x → level_in (without_innermost x) ≡ ended_level_in x
 level_ended x h = go x.own refl
   where
@@ -150,6 +158,7 @@ done_frames s n due e x f c o k b w = go (is_frames_own c) refl
 abbrev pub call_left : Command → Reply → Frame → Frame
 call_left c y f = advanced (if is_done y then done_to c f else f)
 
+-- a refused call leaves its frame just advanced
 refused_left : (c : Command) (y : Reply) (f : Frame) → is_refused y ≡ true → call_left c y f ≡ advanced f
 refused_left c (Refused r) f h = refl
 refused_left c Done f h = absurd cc
@@ -159,6 +168,7 @@ refused_left c Blocked f h = absurd cc
 refused_left c Spin f h = absurd cc
 refused_left c (Status st) f h = absurd cc
 
+-- a call that touches no lane changes the innermost frame only, by its effect if done and by one more call
 pub call_frames : (s : Script) (n : ℕ) (due : Option ℕ) (e : Event) (x : Frames) (f : Frame) (c : Command) (y : Reply) → IsOurs s e x → innermost x ≡ Some f →
     (is_refused y || (not (needs_lane c) && is_done y)) ≡ true → e.what ≡ Call f.name c y → frames_after s n due e x ≡ at_innermost (call_left c y) x
 call_frames s n due e x f c (Refused r) o k b w = call_refused s n due e x f c r o k w
@@ -190,11 +200,13 @@ call_frames s n due e x f c (Status st) o k b w = absurd (no (needs_lane c) b)
     no true q = cc
     no false q = cc
 
+-- a call that is not done leaves the level as it was
 undone_level : (c : Command) (y : Reply) (n : ℕ) → is_done y ≡ false → call_level c y n ≡ n
 undone_level (Raise l) Done n h = absurd cc
 undone_level (Lower l) Done n h = absurd cc
 undone_level _ _ n h = refl
 
+-- case: a done call leaves its frame at the level that the call says
 done_level : (c : Command) (f : Frame) → (call_left c Done f).level ≡ call_level c Done f.level
 done_level (Raise l) f = refl
 done_level (Lower l) f = refl
@@ -204,6 +216,7 @@ done_level LeaveCrit f = refl
 done_level LeaveGuard f = refl
 done_level _ f = refl
 
+-- a call leaves its frame at the level that the call says
 call_left_level : (c : Command) (y : Reply) (f : Frame) → (call_left c y f).level ≡ call_level c y f.level
 call_left_level c Done f = done_level c f
 call_left_level c Yes f = sym (undone_level c Yes f.level refl)

@@ -43,6 +43,7 @@ ours s e w x o k h = record {
   thread = o.thread ∙ (ap (λ (v : What). thread_field v x.running) k ∙ h);
 }
 
+-- doing a call's effect to the innermost frame and to the running thread is what the call leaves of the frames
 pub left_call : (s : Script) (n : ℕ) (due : Option ℕ) (e : Event) (x z : Frames) (f : ℕ) (c : Command) (y : Reply) → Occurs s e x → e.what ≡ Call f c y →
     IsAt f x → z ≡ record (at_innermost (called due c y) x) { running = running_after (Call 0 c y) x.running } → z ≡ frames_after s n due e x
 left_call s n due e x z f c y o k a h =
@@ -51,6 +52,7 @@ left_call s n due e x z f c y o k a h =
     (call_runs 0 c y x.running ∙ sym (call_runs a.frame.name c y x.running))
     ∙ sym (after_call s n due e x a.frame c y (ours s e (Call f c y) x o k refl) a.is (k ∙ ap (λ (m : ℕ). Call m c y) (sym a.name)))
 
+-- opening a frame for the body that begins is what a Begin leaves of the frames
 pub left_begin : (s : Script) (n : ℕ) (due : Option ℕ) (e : Event) (x z : Frames) (b : Begun) (from : ℕ) → Occurs s e x → e.what ≡ Begin b from → z
     ≡ begun n (body_of s b) x → z ≡ frames_after s n due e x
 left_begin s n due e x z (Int level) from o k h =
@@ -62,11 +64,13 @@ left_begin s n due e x z (Threaded d) from o k h =
 left_begin s n due e x z (Apc a) from o k h =
     h ∙ sym (after_apc s n due e x a from (ours s e (Begin (Apc a) from) x o k refl) k)
 
+-- going on to the normal routine in the innermost frame is what a Normal leaves of the frames
 pub left_normal : (s : Script) (n : ℕ) (due : Option ℕ) (e : Event) (x z : Frames) (f : ℕ) → Occurs s e x → e.what ≡ Normal f → IsAt f x → may_go_on x ≡ true →
     z ≡ at_innermost normal_of x → z ≡ frames_after s n due e x
 left_normal s n due e x z f o k a g h =
     h ∙ sym (after_normal s n due e x a.frame (ours s e (Normal f) x o k refl) a.is g (k ∙ ap Normal (sym a.name)))
 
+-- ending the base frame or taking the innermost frame away is what an End leaves of the frames
 pub left_end : (s : Script) (n : ℕ) (due : Option ℕ) (e : Event) (x z : Frames) (f : ℕ) → Occurs s e x → e.what ≡ End f → IsAt f x → z
     ≡ (if is_at_base x then at_innermost ended_base x else without_innermost x) → z ≡ frames_after s n due e x
 left_end s n due e x z f o k a h = go (is_base_body a.frame.body) refl
@@ -83,6 +87,7 @@ left_end s n due e x z f o k a h = go (is_base_body a.frame.body) refl
     go false q =
         h ∙ rw (base ∙ q) (sym (after_end s n due e x a.frame (ours s e (End f) x o k refl) a.is q named))
 
+-- taking a thread up at its base, or with its wait's status, is what a Switch leaves of the frames
 pub left_switch : (s : Script) (n : ℕ) (due : Option ℕ) (e : Event) (x z : Frames) (t : ThreadNo) (status : Option ℕ) → Occurs s e x → e.what
     ≡ Switch t status → x.own ≡ [] → t.0 < length x.threads → z
     ≡ (if is_null (frames_in x.threads t) then begun n (Base t) (taken t x) else at_innermost (resumed status) (taken t x)) → z ≡ frames_after s n due e x
@@ -99,11 +104,13 @@ left_switch s n due e x z t status o k own b h = go (frames_in x.threads t) refl
         let i : is_null (frames_in x.threads t) ≡ false = rw q refl in
         h ∙ rw i (sym (after_switch s n due e x t status f o.threads b own thread k (rw q refl)))
 
+-- taking a wait up again in the innermost frame is what a Rewait leaves of the frames
 pub left_rewait : (s : Script) (n : ℕ) (due : Option ℕ) (e : Event) (x z : Frames) (f : ℕ) (y : Reply) → Occurs s e x → e.what ≡ Rewait f y → IsAt f x → x.own
     ≡ [] → z ≡ record (at_innermost (rewaited y) x) { running = running_after (Rewait 0 y) x.running } → z ≡ frames_after s n due e x
 left_rewait s n due e x z f y o k a own h =
     h ∙ sym (after_rewait s n due e x a.frame y (ours s e (Rewait f y) x o k refl) a.is own (k ∙ ap (λ (m : ℕ). Rewait m y) (sym a.name)))
 
+-- opening a frame for the rundown routine, if there is one, is what a Flush leaves of the frames
 pub left_flush : (s : Script) (n : ℕ) (due : Option ℕ) (e : Event) (x z : Frames) (a : ApcNo) (from : ℕ) → Occurs s e x → e.what ≡ Flush a from → z
     ≡ (if is_some (rundown_of s a) then begun n (Rundown a) x else x) → z ≡ frames_after s n due e x
 left_flush s n due e x z a from o k h = go (rundown_of s a) refl
@@ -116,11 +123,13 @@ left_flush s n due e x z a from o k h = go (rundown_of s a) refl
         let i : is_some (rundown_of s a) ≡ true = rw q refl in
         h ∙ rw i (sym (after_rundown s n due e x a from r (ours s e (Flush a from) x o k refl) k q))
 
+-- closing the running thread's part is what a Gone leaves of the frames
 pub left_gone : (s : Script) (n : ℕ) (due : Option ℕ) (e : Event) (x z : Frames) (t : ThreadNo) → Occurs s e x → e.what ≡ Gone t → z ≡ closed x → z
     ≡ frames_after s n due e x
 left_gone s n due e x z t o k h =
     h ∙ sym (after_gone s n due e x t (ours s e (Gone t) x o k refl) k)
 
+-- freeing the lock that the innermost frame acquired last is what a Free leaves of the frames
 pub left_free : (s : Script) (n : ℕ) (due : Option ℕ) (e : Event) (x z : Frames) (f : ℕ) (k : LockNo) → Occurs s e x → e.what ≡ Free f k → IsAt f x →
     z ≡ at_innermost freed x → z ≡ frames_after s n due e x
 left_free s n due e x z f k o w a h =
@@ -143,6 +152,7 @@ keeps_frames (Flush a from) = false
 keeps_frames (Gone t) = false
 keeps_frames (Free f k) = false
 
+-- an event that changes no frame leaves the frames as they were
 pub left_other : (s : Script) (n : ℕ) (due : Option ℕ) (e : Event) (x : Frames) (w : What) → Occurs s e x → e.what ≡ w → keeps_frames w ≡ true →
     x ≡ frames_after s n due e x
 left_other s n due e x (Look r) o k p =

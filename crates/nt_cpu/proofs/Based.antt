@@ -27,14 +27,17 @@ use Rattle.nt_runs.proofs.Running.{called_keeps, normal_keeps, rewaited_keeps, r
 use Rattle.nt_event.proofs.Tables.{get_or-table, length-table_from}
 use Rattle.nt_cpu.specs.Sound.{AreBased, EndsInBase}
 
+-- a frame on top of frames that end in a base leaves the base at the bottom
 over_based : (f : Frame) (fs : List Frame) → EndsInBase fs → EndsInBase (f ∷ fs)
 over_based f [] h = absurd h
 over_based f (g ∷ fs) h = h
 
+-- changing the top frame without changing its body leaves the base at the bottom
 head_ends : (g : Frame → Frame) (f : Frame) (fs : List Frame) → ((f : Frame) → (g f).body ≡ f.body) → EndsInBase (f ∷ fs) → EndsInBase (g f ∷ fs)
 head_ends g f [] k h = ap is_base_body (k f) ∙ h
 head_ends g f (x ∷ fs) k h = h
 
+-- changing a named frame without changing its body leaves the base at the bottom
 name_ends : (n : ℕ) (g : Frame → Frame) (fs : List Frame) → ((f : Frame) → (g f).body ≡ f.body) → EndsInBase fs → EndsInBase (at_name n g fs)
 name_ends n g [] k h = h
 name_ends n g (f ∷ fs) k h = go (f.name == n)
@@ -43,6 +46,7 @@ name_ends n g (f ∷ fs) k h = go (f.name == n)
     go true = head_ends g f fs k h
     go false = h
 
+-- the end of a thread's top frame leaves the base at the bottom
 ended_ends : (f : Frame) (fs : List Frame) → EndsInBase (f ∷ fs) → EndsInBase (ended_on_thread (f ∷ fs))
 ended_ends f fs h = go (is_base_body f.body) refl
   where
@@ -54,6 +58,7 @@ ended_ends f fs h = go (is_base_body f.body) refl
     go true e = head_ends ended_base f fs (λ g. refl) h
     go false e = rest fs h e
 
+-- the end of a thread's named frame leaves the base at the bottom
 end_ends : (n : ℕ) (fs : List Frame) → EndsInBase fs → EndsInBase (end_on_thread n fs)
 end_ends n [] h = h
 end_ends n (f ∷ fs) h = go (f.name == n)
@@ -62,6 +67,7 @@ end_ends n (f ∷ fs) h = go (f.name == n)
     go true = ended_ends f fs h
     go false = h
 
+-- flushing an APC from a thread's frames leaves the base at the bottom
 flush_ends : (n : ℕ) (a : ApcNo) (r : Option RoutineNo) (fs : List Frame) → EndsInBase fs → EndsInBase (flushed n a r fs)
 flush_ends n a None fs h = h
 flush_ends n a (Some r) fs h = over_based (new_frame n (OnRundown a)) fs h
@@ -103,6 +109,7 @@ names_runner (Call f c Blocked) r t e = absurd cc
 names_runner (Rewait f Blocked) r t e = absurd cc
 names_runner _ r t e = inr e
 
+-- the frames of each thread are none or end in a base
 part_based : (x : Frames) (t : ℕ) → AreBased x → (get_or x.threads t [] ≡ []) ⊎ EndsInBase (get_or x.threads t [])
 part_based x t h = go (nat_lt t (length x.threads)) refl
   where
@@ -111,12 +118,15 @@ part_based x t h = go (nat_lt t (length x.threads)) refl
     go false e =
         let l : length x.threads ≤ t = grind (arith, nat_tests) in inl (get_or_past x.threads t [] l)
 
+-- the frames of the running thread end in a base
 runs_based : (x : Frames) (t : ThreadNo) → AreBased x → x.running ≡ Some t → EndsInBase (frames_in x.threads t)
 runs_based x t h e = rw e at h.runs
 
+-- a thread is itself
 itself : (t : ThreadNo) → is_thread (Some t) t ≡ true
 itself t = grind (arith, nat_tests)
 
+-- after an event each thread still has no frame or its base under the others, and a running one has a base
 pub based_after : (s : Script) (n : ℕ) (due : Option ℕ) (e : Event) (x : Frames) → length x.threads ≡ length s.threads → e.thread
     ≡ thread_field e.what x.running → IfSome (running_after e.what x.running) (λ t. t.0 < length x.threads) → AreBased x → AreBased (frames_after s n due e x)
 based_after s n due e x l k b h = record {

@@ -42,6 +42,7 @@ task_cpu s p x l (Shared job) e h = go (job_event s (stand_in p x) l job) h
     go (Some w) k =
         let i : acted_event (stand_in p x) l w ≡ e = cc in ap (λ (y : Event). y.cpu) (sym i)
 
+-- the event that a turn gives is of the processor that takes the turn
 pub gives_cpu : (c : CpuState) (l : Lanes) (t : Turn) (e : Event) → turn_gives c l t ≡ Ok e → e.cpu ≡ c.cpu
 gives_cpu c l t e h = cut (is_cut c.limit c.own) h
   where
@@ -60,6 +61,7 @@ gives_cpu c l t e h = cut (is_cut c.limit c.own) h
 
 -- ---- what is told
 
+-- if each lane tells what the history says, so do several lanes together
 told_all : (s : Script) (past : List Event) (f : Told) (xs : List Lane) (q : CpuNo) (k : ℕ) → ((x : Lane) → f x q k ≡ told_by s x q k past) →
     told_over f xs q k ≡ told_by_all s xs q k past
 told_all s past f [] q k h = refl
@@ -72,6 +74,7 @@ told_all s past f (x ∷ xs) q k h =
 abbrev pub FoundIn : Script → List Event → Found → Type 0
 FoundIn s past f = f.lanes ≡ lanes_at s past
 
+-- an event is of the processor that made it
 of_itself : (e : Event) (p : CpuNo) → e.cpu ≡ p → is_of e p ≡ true
 of_itself e p c = let h : e.cpu.0 ≡ p.0 = ap (λ (q : CpuNo). q.0) c in grind (arith, nat_tests)
 
@@ -159,6 +162,7 @@ pub record MovesOn (s : Script) (limit : ℕ) (p : CpuNo) (past : List Event) (e
   pub state : d ≡ state_of s p limit (e ∷ past)
   pub floor : Follows s (e ∷ past) w
 
+-- after a turn of a processor that follows a history, processor and floor follow the history with its event
 pub moves_on : (s : Script) (limit : ℕ) (p : CpuNo) (past : List Event) (t : Turn) (f : Found) (n : ℕ) (e : Event) (d : CpuState) (v w : View) (m : Lanes) →
     p.0 < s.cpus → Follows s past v → IsTurned (state_of s p limit past) d t f n e v w → w.states ≡ Some m → MovesOn s limit p past e d w
 moves_on s limit p past t f n e d v w m b h i k =

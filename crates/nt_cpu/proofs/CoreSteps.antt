@@ -48,6 +48,7 @@ use Rattle.nt_cpu.proofs.AloneMoves.{have_states}
 
 -- ---- conditions
 
+-- the next name is at most a bound that all frame names are below
 next_below : (n : ℕ) (fs : List Frame) → AllBelow n fs → next_name fs ≤ n
 next_below n [] h = omega arith
 next_below n (f ∷ fs) h = let b = h.0 in omega arith
@@ -91,6 +92,7 @@ serves_run s limit p past v r b f l = record {
 
 -- ---- looks
 
+-- two guarded tests joined by and are the test of both together
 split : (z a w g h : Bool) → ((z || (a && w)) && (g && h)) ≡ (((z || a) && g) && ((z || w) && h))
 split true a w g h = refl
 split false true true g h = refl
@@ -98,6 +100,7 @@ split false true false true h = refl
 split false true false false h = refl
 split false false w g h = refl
 
+-- values that rise well are those above what was seen, and that were asked for
 good_split : (s : Script) (p : CpuNo) (k : ℕ) (vs : List ℕ) (x : Own) (past : List Event) → good_rises s p k vs x past
     ≡ (rise_above k vs x.seen && asked_rises s p k vs past)
 good_split s p k [] x past = refl
@@ -105,10 +108,12 @@ good_split s p k (v ∷ vs) x past =
     ap (λ (b : Bool). ((v == 0) || (nat_lt (value_at x.seen k) v && was_asked s p k v past)) && b) (good_split s p (suc k) vs x past)
     ∙ split (v == 0) (nat_lt (value_at x.seen k) v) (was_asked s p k v past) (rise_above (suc k) vs x.seen) (asked_rises s p (suc k) vs past)
 
+-- and with true changes nothing
 and_true : (b : Bool) → (b && true) ≡ b
 and_true true = refl
 and_true false = refl
 
+-- and with false is false
 and_false : (b : Bool) → (b && false) ≡ false
 and_false true = refl
 and_false false = refl
@@ -145,6 +150,7 @@ job_steps s limit p job k past r d = go (job_event s (stand_at s p past) (lanes_
     go None e = refl
     go (Some w) e = ap (λ (x : Event). Ok x) (sym (events_agree s limit p job w past r d e))
 
+-- a turn for the next task gives the event of that task, or a refusal that there is nothing to do
 next_steps : (s : Script) (limit : ℕ) (p : CpuNo) (past : List Event) → IsRun s limit past →
     as_step (event_or_refusal NothingToDo (option_and_then (task_makes s p (own_of s p past) (lanes_at s past)) (task s p (own_of s p past))))
     ≡ event_or s p (own_of s p past) NothingToDoKind (option_and_then (task_event s (stand_at s p past) (lanes_at s past)) (task s p (own_of s p past)))
@@ -157,6 +163,7 @@ next_steps s limit p past r = go (task s p (own_of s p past)) refl
     go (Some (Alone w)) e = refl
     go (Some (Shared job)) e = job_steps s limit p job NothingToDo past r (inl e)
 
+-- a turn for a look gives the look if its values are good, or a refusal as a bad look
 look_steps : (s : Script) (p : CpuNo) (r : Rises) (past : List Event) → asked_rises s p 0 r.value past ≡ true →
     as_step (event_or_refusal BadLook (option_and_then (task_makes s p (own_of s p past) (lanes_at s past))
     (when (rises r.value (own_of s p past).seen) (Some (Alone (Look r))))))
@@ -170,6 +177,7 @@ look_steps s p r past h =
     go true = refl
     go false = refl
 
+-- a turn for a given switch gives the switch if the processor may switch, or a refusal as a bad choice
 switch_steps : (s : Script) (limit : ℕ) (p : CpuNo) (t : ThreadNo) (past : List Event) → IsRun s limit past →
     as_step (event_or_refusal BadChoice (option_and_then (task_makes s p (own_of s p past) (lanes_at s past))
     (when (may_switch (own_of s p past) && has_thread s t) (Some (Shared (SwitchJob t))))))

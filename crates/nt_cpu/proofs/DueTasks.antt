@@ -49,16 +49,19 @@ use Rattle.nt_runs.proofs.Declared.{next_fits}
 
 -- ---- what an event that touches no lane asks for
 
+-- a conditional request of a processor for itself names a processor of the script
 asks_own : (c : CpuState) (b : Bool) (k : ℕ) → IsSound c → IfSome (ask_when b c.cpu k) (λ a. a.cpu.0 < c.script.cpus)
 asks_own c true k h = let p = h.cpu in grind (arith, nat_tests)
 asks_own c false k h = tt
 
+-- a refused call asks for nothing
 refused_asks : (st : Stand) (k : Command) (r : Refusal) → call_asks st k (Refused r) ≡ None
 refused_asks st LeaveCrit r = refl
 refused_asks st LeaveGuard r = refl
 refused_asks st (Interrupt q l) r = refl
 refused_asks st _ r = refl
 
+-- the request of a done call that fits the script names a processor of the script
 asks_called : (c : CpuState) (k : Command) → IsSound c → command_fits c.script k ≡ true →
     IfSome (call_asks (stand_in c.cpu c.own) k Done) (λ a. a.cpu.0 < c.script.cpus)
 asks_called c LeaveCrit h f = asks_own c _ 1 h
@@ -69,14 +72,17 @@ asks_called c _ h f = tt
 
 -- ---- the cases
 
+-- the innermost frame of a processor is there under its name
 at_frame : (f : Frame) (c : CpuState) → innermost c.own.frames ≡ Some f → IsAt f.name c.own.frames
 at_frame f c k = record { frame = f; is = k; name = refl }
 
+-- a command that needs no lane may reply that it is done
 reply_done : (k : Command) → needs_lane k ≡ false → may_reply k Done ≡ true
 reply_done (StartWait m a) h = absurd cc
 reply_done (Delay m a u) h = absurd cc
 reply_done _ h = refl
 
+-- a command that is not refused may be called with each reply that it may have
 pub accepted_call : (k : Command) (y : Reply) (x : Frames) → refusal_in k x ≡ None → may_reply k y ≡ true → may_call k y x ≡ true
 accepted_call k y x a r = go (is_refused y)
   where
@@ -84,6 +90,7 @@ accepted_call k y x a r = go (is_refused y)
     go true = refl
     go false = rw (a, r) refl
 
+-- a command that needs no lane passes the test for touching none
 lane_free : (k : Command) → needs_lane k ≡ false → (not (needs_lane k) && true) ≡ true
 lane_free k h = rw h refl
 
@@ -92,6 +99,7 @@ pub own_lock : (s : Script) (k : Command) → command_fits s k ≡ true → lock
 own_lock s (Acquire l) h = h
 own_lock s _ h = refl
 
+-- the task of a call is good if its command fits and is refused as the frames say
 call_good : (c : CpuState) (f : Frame) (k : Command) (r : Option Refusal) → IsSound c → innermost c.own.frames ≡ Some f → refusal_in k c.own.frames ≡ r →
     command_fits c.script k ≡ true → GoodTask c (call_task f k r)
 call_good c f k (Some r) h i e q = record {
@@ -110,6 +118,7 @@ call_good c f k None h i e q = go (needs_lane k) refl
       asks = asks_called c k h q;
     }
 
+-- the task of the next command of the innermost frame is good
 command_good : (c : CpuState) (f : Frame) → IsSound c → innermost c.own.frames ≡ Some f →
     Holds (GoodTask c) (command_task c.own f (next_command c.script c.cpu f))
 command_good c f h i = go (next_command c.script c.cpu f) refl
@@ -120,6 +129,7 @@ command_good c f h i = go (next_command c.script c.cpu f) refl
         call_good c f k (refusal (level_at c.own) (not (is_null c.own.frames.own)) (regions_of (thread_part c.own.frames)) f k) h i
         (refusal_here k f c.own.frames i) (next_fits c.script c.cpu f k h.script e)
 
+-- the task that ends the innermost frame is good, if the frame is not of a leaving thread
 end_good : (c : CpuState) (f : Frame) → IsSound c → innermost c.own.frames ≡ Some f → f.leaving ≡ false → GoodTask c (end_task f.name f.body)
 end_good c f h i l = go f.body refl
   where
@@ -140,6 +150,7 @@ free_good c f h i = go f.held (innermost_small c.script.locks c.own.made c.own.f
     go [] b = tt
     go (x ∷ xs) b = let l = b.0 in record { frame = f; is = i; fits = grind (arith, nat_tests) }
 
+-- the task of the innermost frame is good
 frame_good : (c : CpuState) (f : Frame) → IsSound c → innermost c.own.frames ≡ Some f → Holds (GoodTask c) (frame_task c.script c.cpu c.own f)
 frame_good c f h i =
     holds_or (GoodTask c) (rewait_task f) _ (holds_when (GoodTask c) (is_some f.again) _ (λ a. record { frame = f; is = i; again = a }))
@@ -154,11 +165,13 @@ frame_good c f h i =
     stays true e = absurd cc
     stays false e = refl
 
+-- the task of an interrupt is good
 interrupt_good : (c : CpuState) → Holds (GoodTask c) (interrupt_task c.own)
 interrupt_good c =
     holds_map (GoodTask c) (λ k. Alone (Begin (Int k) (value_at c.own.seen k - 1))) (find (may_interrupt c.own) interrupt_classes)
     (λ k e. record { alone = refl; allow = int_may_begin c.own k e; asks = tt })
 
+-- the task that a processor must do first is good
 must_good : (c : CpuState) → IsSound c → Holds (GoodTask c) (must_task c.own)
 must_good c h =
     holds_or (GoodTask c) (fire_task c.own) _ (fired c.own.fire h.fire)
@@ -180,6 +193,7 @@ frame_has None None (Some x) l d e h = cc
 frame_has None (Some x) k l d e h = cc
 frame_has (Some x) b k l d e h = cc
 
+-- if the innermost frame gives no task, there is no innermost frame
 pub no_frame : (c : CpuState) → option_and_then (frame_task c.script c.cpu c.own) (innermost c.own.frames) ≡ None → innermost c.own.frames ≡ None
 no_frame c = go (innermost c.own.frames)
   where
@@ -189,6 +203,7 @@ no_frame c = go (innermost c.own.frames)
         absurd (frame_has (rewait_task f) (rundown_task f) (command_task c.own f (next_command c.script c.cpu f)) (free_task f) (normal_task f)
         (end_task f.name f.body) e)
 
+-- the task that a sound processor has to do next, if any, is one that its frames allow
 pub task_good : (c : CpuState) → IsSound c → Holds (GoodTask c) (task c.script c.cpu c.own)
 task_good c h =
     holds_or (GoodTask c) (must_task c.own) _ (must_good c h)
@@ -197,6 +212,7 @@ task_good c h =
     (holds_then (GoodTask c) (frame_task c.script c.cpu c.own) (innermost c.own.frames) (λ f i. frame_good c f h i))
     (λ e. holds_when (GoodTask c) (not (c.own.rested && is_none c.own.frames.running)) _ (λ _. no_frame c e))))
 
+-- an option after the task of a frame is never looked at
 or_frame : (a b k l d : Option Task) (e : Task) (o : Option Task) →
     option_or (option_or a (option_or b (option_or k (option_or l (option_or d (Some e)))))) o
     ≡ option_or a (option_or b (option_or k (option_or l (option_or d (Some e)))))
@@ -236,6 +252,7 @@ pub waits_here : (x : Own) (f : Frame) (b : Bool) → innermost x.frames ≡ Som
 waits_here x f b i h =
     ap (λ (o : Option Frame). option_map_or (λ g. is_some g.spin) o false && not (is_due x lock_class)) i ∙ h
 
+-- an optional value that is not present is none
 pub none_of : {A : Type 0} (o : Option A) → is_some o ≡ false → o ≡ None
 none_of None h = refl
 none_of (Some x) h = absurd cc

@@ -14,10 +14,12 @@ abbrev falls : ℕ → List ℕ → Bool
 falls m [] = true
 falls m (x ∷ xs) = nat_le x m && falls x xs
 
+-- the first part of a conjunction that holds does hold
 first_of : (a b : Bool) → (a && b) ≡ true → a ≡ true
 first_of true b h = refl
 first_of false b h = absurd cc
 
+-- the last part of a conjunction that holds does hold
 last_of : (a b : Bool) → (a && b) ≡ true → b ≡ true
 last_of true b h = h
 last_of false b h = absurd cc
@@ -79,6 +81,7 @@ found m P (x ∷ xs) h = go (found x P xs (last_of (nat_le x m) (falls x xs) h))
     go later true e = (least, e)
     go later false e = weaker (find P xs) later
 
+-- what holds of an optional class holds of it after the classes at or below a level are dropped
 above_found : (level : ℕ) (P : ℕ → Type 0) (o : Option ℕ) → IfSome o P → IfSome (above_level level o) P
 above_found level P None h = tt
 above_found level P (Some c) h = go (nat_lt level c)
@@ -87,6 +90,7 @@ above_found level P (Some c) h = go (nat_lt level c)
     go true = h
     go false = tt
 
+-- what has two properties if it is there has each of them
 halves : (P Q : ℕ → Type 0) (o : Option ℕ) → IfSome o (λ c. P c × Q c) → IfSome o P × IfSome o Q
 halves P Q None h = (tt, tt)
 halves P Q (Some c) h = h
@@ -108,6 +112,7 @@ due_class level seen served =
 
 -- ---- before the first event
 
+-- no class is due if what was served is what was seen
 same_none : (xs cs : List ℕ) → find (is_unserved xs xs) cs ≡ None
 same_none xs [] = refl
 same_none xs (c ∷ cs) =
@@ -127,6 +132,7 @@ abbrev are_interrupts : List ℕ → Bool
 are_interrupts [] = true
 are_interrupts (x ∷ xs) = is_interrupt x && are_interrupts xs
 
+-- two tests that agree on the interrupt classes find the same class
 find_same : (P Q : ℕ → Bool) (xs : List ℕ) → are_interrupts xs ≡ true → ((c : ℕ) → IsInterrupt c → c < class_count → P c ≡ Q c) → find P xs ≡ find Q xs
 find_same P Q [] a h = refl
 find_same P Q (x ∷ xs) a h =

@@ -42,6 +42,7 @@ no_move (Acquire k) Spin d p = absurd (cc)
 no_move (Unlock k) Done d p = absurd (cc)
 no_move c y d p = refl
 
+-- a call that begins no wait, is not done and does not spin changes nothing in the innermost frame
 pub undone : (due : Option ℕ) (c : Command) (y : Reply) (x : Frames) → wait_begun due c ≡ None → is_done y ≡ false → is_spin y ≡ false →
     x ≡ at_innermost (effect_made due c y) x
 undone due c y x h d p =
@@ -59,6 +60,7 @@ done_made due c (Status status) x h d = absurd (cc)
 done_made due c Blocked x h d = absurd (cc)
 done_made due c (Refused why) x h d = absurd (cc)
 
+-- spinning on a lock in the innermost frame is the effect of a call that spins
 pub spin_made : (due : Option ℕ) (c : Command) (y : Reply) (x : Frames) → wait_begun due c ≡ None → is_spin y ≡ true →
     at_innermost (moved (call_move c Spin)) x ≡ at_innermost (effect_made due c y) x
 spin_made due c Spin x h d =
@@ -92,6 +94,7 @@ thread_part_changed g x h z = go x.running refl
     go None e = rw e (sym z)
     go (Some t) e = rw e (get_or-set_same x.threads t.0 (g (get_or x.threads t.0 [])) [] (rw e at h.running))
 
+-- changing the running thread's part leaves the processor's own part
 pub on_running_own : (g : List Frame → List Frame) (x : Frames) (r : Option ThreadNo) → (on_running g r x).own ≡ x.own
 on_running_own g x None = refl
 on_running_own g x (Some t) = refl
@@ -109,6 +112,7 @@ innermost-at_innermost g x h = go x.own refl
     go (y ∷ ys) e =
         let n : is_null x.own ≡ false = rw e refl in rw (n, e) refl
 
+-- a done command leaves the frame's place
 done_place : (c : Command) (f : Frame) → (done_to c f).place ≡ f.place
 done_place (Raise l) f = refl
 done_place (Lower l) f = refl
@@ -118,10 +122,12 @@ done_place LeaveCrit f = refl
 done_place LeaveGuard f = refl
 done_place _ f = refl
 
+-- a choice between two frames with the same place has that place
 if_place : (b : Bool) (g f : Frame) → g.place ≡ f.place → (if b then g else f).place ≡ f.place
 if_place true g f h = h
 if_place false g f h = refl
 
+-- a move of a lock leaves the frame's place
 moved_place : (m : LockMove) (f : Frame) → (moved m f).place ≡ f.place
 moved_place (Gets k) f = refl
 moved_place (Spins k) f = refl
@@ -134,9 +140,11 @@ effect_place due (StartWait m a) y f = refl
 effect_place due (Delay m a u) y f = refl
 effect_place due c y f = if_place (is_done y) (done_to c f) f (done_place c f)
 
+-- the effect of a call leaves the place of its frame
 pub made_place : (due : Option ℕ) (c : Command) (y : Reply) (f : Frame) → (effect_made due c y f).place ≡ f.place
 made_place due c y f = moved_place (call_move c y) (effect due c y f) ∙ effect_place due c y f
 
+-- the effect of a call that is no spin, advanced, is the call as called
 called_made : (due : Option ℕ) (c : Command) (y : Reply) (f : Frame) → is_spin y ≡ false → advanced (effect_made due c y f) ≡ called due c y f
 called_made due c Spin f h = absurd (cc)
 called_made due (Raise l) Done f h = refl
@@ -178,14 +186,17 @@ then_advanced due c y x h p =
 pub call_runs : (n : ℕ) (c : Command) (y : Reply) (r : Option ThreadNo) → running_after (Call n c y) r ≡ (if stops c y then None else r)
 call_runs n c y r = refl
 
+-- no thread runs after a call that stops its thread
 pub stopped_runs : (c : Command) (y : Reply) (r : Option ThreadNo) → stops c y ≡ true → running_after (Call 0 c y) r ≡ None
 stopped_runs c y r h = call_runs 0 c y r ∙ rw h refl
 
+-- the running thread still runs after a call that does not stop it
 pub going_runs : (c : Command) (y : Reply) (r : Option ThreadNo) → stops c y ≡ false → running_after (Call 0 c y) r ≡ r
 going_runs c y r h = call_runs 0 c y r ∙ rw h refl
 
 -- ---- a call, as the calls of the frames make it
 
+-- changing the innermost frame leaves one, if there was one
 pub some_changed : (g : Frame → Frame) (x y : Frames) → AreNested x → y ≡ at_innermost g x → IsSome (innermost x) → IsSome (innermost y)
 some_changed g x y h e q = rw (e, innermost-at_innermost g x h) (go (innermost x) q)
   where
@@ -193,6 +204,7 @@ some_changed g x y h e q = rw (e, innermost-at_innermost g x h) (go (innermost x
     go None k = k
     go (Some f) k = k
 
+-- the innermost frame's place stays below a number when a call's effect is done to it
 pub place_changed : (due : Option ℕ) (c : Command) (y : Reply) (x z : Frames) (n : ℕ) → AreNested x → z ≡ at_innermost (effect_made due c y) x →
     ((f : Frame) → innermost x ≡ Some f → f.place < n) → (f : Frame) → innermost z ≡ Some f → f.place < n
 place_changed due c y x z n h e b f k =
@@ -203,6 +215,7 @@ place_changed due c y x z n h e b f k =
     go (Some g) q i =
         let j : effect_made due c y g ≡ f = cc in rw (← j, made_place due c y g) (b g q)
 
+-- effect, one more call and no running thread together are what a call that stops its thread leaves
 pub called_stopped : (due : Option ℕ) (c : Command) (y : Reply) (x a b d : Frames) → AreNested x → is_spin y ≡ false →
     a ≡ at_innermost (effect_made due c y) x → b ≡ at_innermost advanced a → d ≡ record b { running = None } → stops c y ≡ true →
     d ≡ record (at_innermost (called due c y) x) { running = running_after (Call 0 c y) x.running }
@@ -211,6 +224,7 @@ called_stopped due c y x a b d h i p q r t =
     ∙ ap (λ (z : Frames). record z { running = None }) (q ∙ (ap (at_innermost advanced) p ∙ then_advanced due c y x h i))
     ∙ ap (λ (o : Option ThreadNo). record (at_innermost (called due c y) x) { running = o }) (sym (stopped_runs c y x.running t))
 
+-- effect and one more call together are what a call that neither spins nor stops its thread leaves
 pub called_going : (due : Option ℕ) (c : Command) (y : Reply) (x a b : Frames) → AreNested x → is_spin y ≡ false → a ≡ at_innermost (effect_made due c y) x → b
     ≡ at_innermost advanced a → stops c y ≡ false → b ≡ record (at_innermost (called due c y) x) { running = running_after (Call 0 c y) x.running }
 called_going due c y x a b h i p q t =
@@ -226,6 +240,7 @@ spun_goes Yield Spin h = refl
 spun_goes c Spin h = refl
 spun_goes c y h = absurd (cc)
 
+-- the effect alone is what a call that spins leaves
 pub called_spins : (due : Option ℕ) (c : Command) (y : Reply) (x a : Frames) → is_spin y ≡ true → may_reply c y ≡ true →
     a ≡ at_innermost (effect_made due c y) x →
     a ≡ record (at_innermost (called due c y) x) { running = running_after (Call 0 c y) x.running }

@@ -19,6 +19,7 @@ use Rattle.nt_cpu.specs.Fits.{Allow, may_call, may_reply}
 
 -- no frame of the own part has a wait
 
+-- changing a named frame without giving it a wait leaves all frames without waits
 waits_at_name : (m : ℕ) (g : Frame → Frame) (fs : List Frame) → ((f : Frame) → f.again ≡ None → (g f).again ≡ None) → HaveNoWaits fs →
     HaveNoWaits (at_name m g fs)
 waits_at_name m g [] k h = tt
@@ -28,6 +29,7 @@ waits_at_name m g (f ∷ fs) k h = (go (f.name == m), h.1)
     go true = k f h.0
     go false = h.0
 
+-- taking a frame away leaves the others without waits
 waits_without : (m : ℕ) (fs : List Frame) → HaveNoWaits fs → HaveNoWaits (without m fs)
 waits_without m [] h = tt
 waits_without m (f ∷ fs) h = go (f.name == m)
@@ -42,6 +44,7 @@ is_wait (StartWait m a) = true
 is_wait (Delay m a u) = true
 is_wait _ = false
 
+-- a refused wait leaves no wait to take up if there was none
 wait_none : (y : Reply) (m : Option Again) (old : Option Again) → is_refused y ≡ true → old ≡ None → again_after y m old ≡ None
 wait_none (Refused r) m old h k = k
 wait_none Done m old h k = absurd cc
@@ -51,6 +54,7 @@ wait_none No m old h k = absurd cc
 wait_none (Status st) m old h k = absurd cc
 wait_none Blocked m old h k = absurd cc
 
+-- a done command leaves the frame's wait to take up as it was
 done_again : (c : Command) (f : Frame) → (done_to c f).again ≡ f.again
 done_again (Raise l) f = refl
 done_again (Lower l) f = refl
@@ -60,6 +64,7 @@ done_again LeaveCrit f = refl
 done_again LeaveGuard f = refl
 done_again _ f = refl
 
+-- a call leaves a frame without a wait, if it is no wait or the wait was refused
 sets_none : (due : Option ℕ) (c : Command) (y : Reply) (f : Frame) → (is_wait c ≡ true → is_refused y ≡ true) → f.again ≡ None → (called due c y f).again ≡ None
 sets_none due (StartWait m a) y f h k = wait_none y _ f.again (h refl) k
 sets_none due (Delay m a u) y f h k = wait_none y _ f.again (h refl) k
@@ -75,6 +80,7 @@ own_refuses (StartWait m a) x g gs e h = rw e refl
 own_refuses (Delay m a u) x g gs e h = rw e refl
 own_refuses _ x g gs e h = absurd cc
 
+-- a wait called by a frame of the processor's own is refused
 is_refused_there : (c : Command) (y : Reply) (x : Frames) (g : Frame) (gs : List Frame) → x.own ≡ g ∷ gs → may_call c y x ≡ true → is_wait c ≡ true →
     is_refused y ≡ true
 is_refused_there c y x g gs e m h =
@@ -84,6 +90,7 @@ is_refused_there c y x g gs e m h =
     go true q k = q
     go false q k = absurd cc
 
+-- a call that is allowed leaves the processor's own frames without waits
 waits_call : (m : ℕ) (due : Option ℕ) (f : ℕ) (c : Command) (y : Reply) (x : Frames) → may_call c y x ≡ true → HaveNoWaits x.own →
     HaveNoWaits (at_name f (called due c y) x.own)
 waits_call m due f c y x a h = go x.own refl
@@ -93,6 +100,7 @@ waits_call m due f c y x a h = go x.own refl
     go (g ∷ gs) e =
         waits_at_name f (called due c y) x.own (λ q k. sets_none due c y q (is_refused_there c y x g gs e a) k) h
 
+-- no frame of a processor's own part has a wait to take up after an event that the frames allow
 pub waits_after : (s : Script) (m : ℕ) (due : Option ℕ) (w : What) (x : Frames) → Allow s w x → HaveNoWaits x.own → HaveNoWaits (own_after m due w x.own)
 waits_after s m due (Begin (Int l) from) x a h = (refl, h)
 waits_after s m due (Begin (Dpc d) from) x a h = (refl, h)

@@ -25,6 +25,7 @@ use Rattle.nt_event.specs.declared.class.Asked.{Asked}
 use Rattle.nt_cpu.proofs.AloneMoves.{asked_for, marked_stays, marked_value}
 use Rattle.nt_cpu.proofs.NamesLeft.{named_after}
 
+-- words that serve a processor know what it has seen
 pub knows_of : (c : CpuState) (v : View) → Serves c v → Knows c v
 knows_of c v h = record { known = h.known; below = h.below; named = h.named }
 
@@ -32,6 +33,7 @@ knows_of c v h = record { known = h.known; below = h.below; named = h.named }
 pub has_words : (c : CpuState) (v : View) → IsSound c → v.cpus ≡ c.script.cpus → c.cpu.0 < v.cpus
 has_words c v s e = let p = s.cpu in let q : c.cpu.0 < c.script.cpus = grind (arith, nat_tests) in omega arith
 
+-- the words still know a processor on a floor that did not move
 pub knows_unmoved : (c : CpuState) (v w : View) → c.cpu.0 < v.cpus → Knows c v → IsUnmoved v w → Knows c w
 knows_unmoved c v w b h m = record {
   known = λ k q. let x = h.known k q in let y = m.never_falls c.cpu k (b, q) in omega arith;
@@ -61,6 +63,7 @@ known_looked c xs v u b h k q = go (was_looked c.cpu 15 c.cpu k) refl
     go false e =
         let x : u.value c.cpu k ≡ v.value c.cpu k = h.value c.cpu k (b, q) ∙ rw e refl in omega arith
 
+-- the words still know a processor after it looked at its classes
 pub knows_looked : (c : CpuState) (xs : List ℕ) (v u : View) → c.cpu.0 < v.cpus → Knows c v → AllLooked c.cpu xs v u → Knows c u
 knows_looked c xs v u b h l = record {
   known = λ k q. let x = h.known k q in let y = known_looked c xs v u b l k q in omega arith;
@@ -68,6 +71,7 @@ knows_looked c xs v u b h l = record {
   named = below_more v.next u.next c.own.frames l.next h.named;
 }
 
+-- the words still serve a processor after it looked at its classes
 pub serves_looked : (c : CpuState) (xs : List ℕ) (v u : View) → c.cpu.0 < v.cpus → Serves c v → AllLooked c.cpu xs v u → Serves c u
 serves_looked c xs v u b h l =
     let n = knows_looked c xs v u b (knows_of c v h) l in
@@ -152,6 +156,7 @@ knows_left c n due e seen z s a m h = record {
   named = below_more (n + 1) z.next (own_with c.script n due e seen c.own).frames m (named_after c.script n due e c.own.frames s.nested a);
 }
 
+-- the greater of two numbers is below a bound that both are below
 max_below : (a b n : ℕ) → a ≤ n → b ≤ n → max a b ≤ n
 max_below a b n h k = omega arith
 
@@ -172,6 +177,7 @@ ask_known : (t : Bool) (n old new : ℕ) → new ≡ (if t || false then max old
 ask_known true n old new e = (omega arith, omega arith)
 ask_known false n old new e = (omega arith, omega arith)
 
+-- a request's number is at most the next one
 ask_fits : (t : Bool) (n next : ℕ) → next ≡ n + 1 → (if t then n + 1 else 0) ≤ next
 ask_fits true n next e = omega arith
 ask_fits false n next e = omega arith
@@ -182,6 +188,7 @@ pub record IsNoticed (p : CpuNo) (w : What) (a : Option Asked) (n k : ℕ) (u y 
   pub next : noticed p w a n k ≤ y.next
   pub grown : u.value p k ≤ y.value p k
 
+-- what a processor noticed of a class by its own event is known to the words
 own_noticed : (p : CpuNo) (w : What) (a : Option Asked) (n k : ℕ) (u y : View) → HasWord u p k → IsMarkedFor a n u y → u.next ≡ n + 1 →
     ((r : Rises) → w ≡ Look r → (value_at r.value k ≤ u.value p k) × (value_at r.value k ≤ u.next)) → IsNoticed p w a n k u y
 own_noticed p w a n k u y b m e r = go w a refl refl

@@ -38,34 +38,41 @@ use Rattle.nt_cpu.specs.Turns.{HaveStates}
 
 -- ---- one question after another
 
+-- an event that touches no lane leaves each object's importance
 keeps_importance : (b : Option Body) (w : What) (d : DpcNo) (x : Importance) → is_alone b w ≡ true → importance_after d w x ≡ x
 keeps_importance b (Call f (SetImportance y i) Done) d x h = absurd cc
 keeps_importance b _ d x h = refl
 
+-- an event that touches no lane leaves each object's target
 keeps_target : (b : Option Body) (w : What) (d : DpcNo) (x : Option CpuNo) → is_alone b w ≡ true → target_after d w x ≡ x
 keeps_target b (Call f (SetTarget y t) Done) d x h = absurd cc
 keeps_target b _ d x h = refl
 
+-- an event that touches no lane inserts no DPC
 inserts_none : (b : Option Body) (w : What) → is_alone b w ≡ true → inserted_dpc w ≡ None
 inserts_none b (Call f (Queue d) Yes) h = absurd cc
 inserts_none b (Fire d Yes) h = absurd cc
 inserts_none b _ h = refl
 
+-- an event that touches no lane uses up no DPC
 uses_none : (b : Option Body) (w : What) → is_alone b w ≡ true → used_up_dpc w ≡ None
 uses_none b (Begin (Dpc d) from) h = absurd cc
 uses_none b (Begin (Threaded d) from) h = absurd cc
 uses_none b (Call f (Unqueue d) Yes) h = absurd cc
 uses_none b _ h = refl
 
+-- an event that touches no lane leaves the idle flag
 keeps_idle : (b : Option Body) (w : What) (x : Bool) → is_alone b w ≡ true → idle_after w x ≡ x
 keeps_idle b Rest x h = absurd cc
 keeps_idle b (Switch t st) x h = absurd cc
 keeps_idle b _ x h = refl
 
+-- an event that touches no lane leaves the time
 keeps_time : (b : Option Body) (w : What) (x : ℕ) → is_alone b w ≡ true → time_after w x ≡ x
 keeps_time b (Call f (Clock u) Done) x h = absurd cc
 keeps_time b _ x h = refl
 
+-- an event that touches no lane leaves each timer's setting
 keeps_timer : (b : Option Body) (w : What) (t : TimerNo) (n now : ℕ) (x : Option Setting) → is_alone b w ≡ true → timer_after t n now w x ≡ x
 keeps_timer b (Call f (SetTimer y due period) Yes) t n now x h = absurd cc
 keeps_timer b (Call f (SetTimer y due period) No) t n now x h = absurd cc
@@ -73,20 +80,24 @@ keeps_timer b (Call f (CancelTimer y) Yes) t n now x h = absurd cc
 keeps_timer b (Expire (OfTimer y) from) t n now x h = absurd cc
 keeps_timer b _ t n now x h = refl
 
+-- an event that touches no lane leaves the due time that a blocked delay would leave
 keeps_delay : (b : Option Body) (w : What) (n now : ℕ) (again : Option Again) (x : Option Setting) → is_alone b w ≡ true → blocked_after n now again w x ≡ x
 keeps_delay b (Call f (Delay m a u) Blocked) n now again x h = absurd cc
 keeps_delay b (Rewait f Blocked) n now again x h = absurd cc
 keeps_delay b _ n now again x h = refl
 
+-- an event that touches no lane expires no delay
 expires_none : (b : Option Body) (w : What) (t : ThreadNo) (x : Option Setting) → is_alone b w ≡ true → expired_delay t w x ≡ x
 expires_none b (Expire (OfDelay u) from) t x h = absurd cc
 expires_none b _ t x h = refl
 
+-- the end of a frame that ends alone leaves the thread's state
 ends_none : (b : Option Body) (x : ThreadFacts) → ends_alone b ≡ true → frame_ended b x ≡ x
 ends_none (Some (OnBase t)) x h = absurd cc
 ends_none (Some (OnApc a UserApc)) x h = absurd cc
 ends_none _ x h = refl
 
+-- an event that touches no lane leaves its maker's state
 makes_none : (s : Script) (n : ℕ) (st : Stand) (w : What) (x : ThreadFacts) → is_alone st.body w ≡ true → made_facts s n st w x ≡ x
 makes_none s n st (Switch t status) x h = absurd cc
 makes_none s n st (Call f (StartWait m a) (Status v)) x h = absurd cc
@@ -103,6 +114,7 @@ makes_none s n st (Flush a from) x h = absurd cc
 makes_none s n st (Gone t) x h = absurd cc
 makes_none s n st _ x h = refl
 
+-- an event that touches no lane leaves the state of the thread that it names
 names_none : (b : Option Body) (s : Script) (t : ThreadNo) (n : ℕ) (w : What) (x : ThreadFacts) → is_alone b w ≡ true → named_facts s t n w x ≡ x
 names_none b s t n (Call f (Release u) Yes) x h = absurd cc
 names_none b s t n (Call f (Release u) No) x h = absurd cc
@@ -115,6 +127,7 @@ names_none b s t n _ x h = refl
 
 -- ---- lane after lane
 
+-- an event that touches no lane leaves each DPC object
 object_kept : (b : Option Body) (d : DpcNo) (n : ℕ) (p : CpuNo) (w : What) (x : ObjectState) → is_alone b w ≡ true → object_after d n p w x ≡ x
 object_kept b d n p w x h =
     λ i. record { importance = keeps_importance b w d x.importance h i; target = keeps_target b w d x.target h i; standing = s i }
@@ -122,6 +135,7 @@ object_kept b d n p w x h =
     s : (object_after d n p w x).standing ≡ x.standing
     s = rw (inserts_none b w h, uses_none b w h) refl
 
+-- an event that touches no lane leaves each DPC queue
 queue_kept : (b : Option Body) (s : Script) (q : CpuNo) (n : ℕ) (p : CpuNo) (w : What) (objects : List ObjectState) (x : QueueState) → is_alone b w ≡ true →
     queue_after s q n p w objects x ≡ x
 queue_kept b s q n p w objects x h =
@@ -134,6 +148,7 @@ queue_kept b s q n p w objects x h =
     m true = keeps_idle b w x.idle h
     m false = refl
 
+-- an event that touches no lane leaves each thread's state
 facts_kept : (s : Script) (t : ThreadNo) (n : ℕ) (st : Stand) (e : Event) (x : ThreadFacts) → is_alone st.body e.what ≡ true → facts_after s t n st e x ≡ x
 facts_kept s t n st e x h =
     names_none st.body s t n e.what (if is_of_thread s t e then made_facts s n st e.what x else x) h
@@ -143,6 +158,7 @@ facts_kept s t n st e x h =
     m true = makes_none s n st e.what x h
     m false = refl
 
+-- an event that touches no lane leaves each thread's delay
 delay_kept : (s : Script) (t : ThreadNo) (n now : ℕ) (st : Stand) (e : Event) (x : Option Setting) → is_alone st.body e.what ≡ true →
     delay_after s t n now st.again e x ≡ x
 delay_kept s t n now st e x h =
@@ -153,6 +169,7 @@ delay_kept s t n now st e x h =
     m true = keeps_delay st.body e.what n now st.again x h
     m false = refl
 
+-- an event that touches no lane moves no lock
 no_move : (b : Option Body) (w : What) → is_alone b w ≡ true → lock_move w ≡ NoMove
 no_move b (Call f (Acquire k) Done) h = absurd cc
 no_move b (Call f (Acquire k) Spin) h = absurd cc
@@ -160,9 +177,11 @@ no_move b (Call f (Unlock k) Done) h = absurd cc
 no_move b (Free f k) h = absurd cc
 no_move b _ h = refl
 
+-- an event that touches no lane leaves each lock
 lock_kept : (b : Option Body) (s : Script) (k : LockNo) (e : Event) (x : LockState) → is_alone b e.what ≡ true → lock_after s k e x ≡ x
 lock_kept b s k e x h = ap (λ (m : LockMove). lock_moved s k e.cpu m x) (no_move b e.what h)
 
+-- an event that touches no lane leaves the states of all lanes
 pub lanes_kept : (s : Script) (n : ℕ) (st : Stand) (e : Event) (l : Lanes) → HaveStates s l → is_alone st.body e.what ≡ true → lanes_after s n st e l ≡ l
 lanes_kept s n st e l a h = λ i. record {
   objects = o i;

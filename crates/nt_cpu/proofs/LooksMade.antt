@@ -11,22 +11,26 @@ use Rattle.nt_floor.specs.Views.{HasWord, IsLooked, SameFloor, View, is_word}
 use Rattle.nt_event.specs.Classes.{is_used_class}
 use Rattle.nt_cpu.specs.Steps.{LooksBelow, look_if, looks_below, was_looked, with_looks}
 
+-- looks at the same values are the same looks
 looks_same : (p : CpuNo) (n : ℕ) (xs ys : List ℕ) → ((j : ℕ) → j < n → value_at xs j ≡ value_at ys j) → looks_below p n xs ≡ looks_below p n ys
 looks_same p zero xs ys h = refl
 looks_same p (suc k) xs ys h =
     ap (λ (l : List Look). l ++ look_if (is_used_class k) p k (value_at xs k)) (looks_same p k xs ys (λ j b. h j (omega arith)))
     ∙ ap (λ (v : ℕ). looks_below p k ys ++ look_if (is_used_class k) p k v) (h k (omega arith))
 
+-- one more look after others is the others with it at the end
 one_more : (p : CpuNo) (k a : ℕ) (l : List Look) (x : Option Lists) → with_look p k a (with_looks l x)
     ≡ with_looks (l ++ record { cpu = p; class = k; value = a } ∷ []) x
 one_more p k a l None = refl
 one_more p k a l (Some y) =
     ap (λ (z : List Look). Some (record y { looks = z })) (append_assoc y.looks l (record { cpu = p; class = k; value = a } ∷ []))
 
+-- no more looks leave the looks as they were
 no_more : (l : List Look) → l ++ [] ≡ l
 no_more [] = refl
 no_more (x ∷ l) = ap (λ (z : List Look). x ∷ z) (no_more l)
 
+-- a floor unchanged from one view to a second and from that to a third is unchanged from first to third
 pub same_through : (v u w : View) → SameFloor v u → SameFloor u w → SameFloor v w
 same_through v u w a b = record {
   cpus = b.cpus ∙ a.cpus;
@@ -37,6 +41,7 @@ same_through v u w a b = record {
 
 -- ---- one look more
 
+-- the answer to one more look is read at its class, and the earlier answers elsewhere
 value_more : (p q : CpuNo) (k j a : ℕ) (answers : List ℕ) (old : ℕ) → length answers ≡ 16 → k < 16 → is_used_class k ≡ true →
     (if is_word p k q j then a else (if was_looked p k q j then value_at answers j else old))
     ≡ (if was_looked p (suc k) q j then value_at (set answers k a) j else old)
@@ -57,6 +62,7 @@ value_more p q k j a answers old l b u = go (q.0 == p.0) (j == k) refl
         same true f i = grind (arith, nat_tests)
         same false f i = grind (arith, nat_tests)
 
+-- one more look at a used class extends the looks below that class by its answer
 pub look_more : (k : ℕ) (p : CpuNo) (answers : List ℕ) (a : ℕ) (v u w : View) → length answers ≡ 16 → k < 15 → is_used_class k ≡ true → p.0 < v.cpus →
     LooksBelow k p answers v u → IsLooked p k a u w → LooksBelow (suc k) p (set answers k a) v w
 look_more k p answers a v u w l b used c h i = record {
@@ -131,6 +137,7 @@ look_more k p answers a v u w l b used c h i = record {
         let z = i.next.0 in
         omega arith
 
+-- a class that is not used needs no look: the looks below it are those below the next class
 pub look_none : (k : ℕ) (p : CpuNo) (answers : List ℕ) (v u : View) → is_used_class k ≡ false → LooksBelow k p answers v u → LooksBelow (suc k) p answers v u
 look_none k p answers v u used h = record {
   lists = h.lists ∙ ap (λ (x : List Look). with_looks x v.lists)

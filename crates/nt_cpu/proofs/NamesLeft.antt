@@ -21,6 +21,7 @@ use Rattle.nt_event.proofs.Tables.{get_or-table, length-table_from}
 use Rattle.nt_runs.proofs.Names.{called_name, resumed_name}
 use Rattle.nt_frame.specs.Nesting.{AreNamedBelow, AreNested, IsPart, next_name}
 
+-- changing a named frame without its name keeps the names below the next one
 next_named : (n m : ℕ) (g : Frame → Frame) (fs : List Frame) → ((f : Frame) → (g f).name ≡ f.name) → next_name fs ≤ n → next_name (at_name m g fs) ≤ n + 1
 next_named n m g [] k h = omega arith
 next_named n m g (f ∷ fs) k h = go (f.name == m)
@@ -29,10 +30,12 @@ next_named n m g (f ∷ fs) k h = go (f.name == m)
     go true = rw (k f) (omega arith)
     go false = omega arith
 
+-- the frames under the top one are named below the next one
 next_tail : (n : ℕ) (own : Bool) (f : Frame) (fs : List Frame) → IsPart own (f ∷ fs) → f.name + 1 ≤ n → next_name fs ≤ n + 1
 next_tail n own f [] p h = omega arith
 next_tail n own f (g ∷ gs) p h = omega (arith, p.1.1)
 
+-- taking a named frame away keeps the names below the next one
 next_without : (n m : ℕ) (own : Bool) (fs : List Frame) → IsPart own fs → next_name fs ≤ n → next_name (without m fs) ≤ n + 1
 next_without n m own [] p h = omega arith
 next_without n m own (f ∷ fs) p h = go (f.name == m)
@@ -41,6 +44,7 @@ next_without n m own (f ∷ fs) p h = go (f.name == m)
     go true = next_tail n own f fs p h
     go false = omega arith
 
+-- the end of a thread's frame keeps the names below the next one
 next_ended : (n m : ℕ) (fs : List Frame) → IsPart false fs → next_name fs ≤ n → next_name (end_on_thread m fs) ≤ n + 1
 next_ended n m [] p h = omega arith
 next_ended n m (f ∷ fs) p h = go (f.name == m)
@@ -53,14 +57,17 @@ next_ended n m (f ∷ fs) p h = go (f.name == m)
     go true = ended (is_base_body f.body)
     go false = omega arith
 
+-- flushing an APC from the frames keeps the names below the next one
 next_flushed : (n : ℕ) (a : ApcNo) (r : Option RoutineNo) (fs : List Frame) → next_name fs ≤ n → next_name (flushed n a r fs) ≤ n + 1
 next_flushed n a None fs h = omega arith
 next_flushed n a (Some r) fs h = omega arith
 
+-- a switch to a thread keeps the names of its frames below the next one
 next_switched : (n : ℕ) (t : ThreadNo) (st : Option ℕ) (fs : List Frame) → next_name fs ≤ n → next_name (switched_to n t st fs) ≤ n + 1
 next_switched n t st [] h = omega arith
 next_switched n t st (f ∷ fs) h = rw (resumed_name st f) (omega arith)
 
+-- an event leaves the processor's own frames named below the next one
 next_own : (n : ℕ) (due : Option ℕ) (w : What) (fs : List Frame) → IsPart true fs → next_name fs ≤ n → next_name (own_after n due w fs) ≤ n + 1
 next_own n due (Begin (Int l) from) fs p h = omega arith
 next_own n due (Begin (Dpc d) from) fs p h = omega arith
@@ -71,6 +78,7 @@ next_own n due (Free f l) fs p h = next_named n f freed fs (λ f. refl) h
 next_own n due (End f) fs p h = next_without n f true fs p h
 next_own n due _ fs p h = omega arith
 
+-- an event of a thread leaves its frames named below the next one
 next_thread : (s : Script) (n : ℕ) (due : Option ℕ) (w : What) (fs : List Frame) → IsPart false fs → next_name fs ≤ n →
     next_name (thread_after s n due w fs) ≤ n + 1
 next_thread s n due (Switch t st) fs p h = next_switched n t st fs h
@@ -84,6 +92,7 @@ next_thread s n due (End f) fs p h = next_ended n f fs p h
 next_thread s n due (Gone t) fs p h = omega arith
 next_thread s n due _ fs p h = omega arith
 
+-- an event, of the thread or not, leaves the thread's frames named below the next one
 next_if : (b : Bool) (s : Script) (n : ℕ) (due : Option ℕ) (w : What) (fs : List Frame) → IsPart false fs → next_name fs ≤ n →
     next_name (thread_if b s n due w fs) ≤ n + 1
 next_if true s n due w fs p h = next_thread s n due w fs p h
@@ -94,6 +103,7 @@ pub record IsNamedPart (n : ℕ) (fs : List Frame) : Type 0 where
   pub part : IsPart false fs
   pub below : next_name fs ≤ n
 
+-- the frames of each thread are a thread's part, and are named below the bound
 named_part : (n : ℕ) (x : Frames) (t : ℕ) → AreNested x → AreNamedBelow n x → IsNamedPart n (get_or x.threads t [])
 named_part n x t a h = go (nat_lt t (length x.threads)) refl
   where
@@ -105,6 +115,7 @@ named_part n x t a h = go (nat_lt t (length x.threads)) refl
         let l : length x.threads ≤ t = grind (arith, nat_tests) in
         rw (get_or_past x.threads t [] l) (record { part = tt; below = omega arith })
 
+-- frames named below an event's number are named below the next number after the event
 pub named_after : (s : Script) (n : ℕ) (due : Option ℕ) (e : Event) (x : Frames) → AreNested x → AreNamedBelow n x →
     AreNamedBelow (n + 1) (frames_after s n due e x)
 named_after s n due e x a h = (

@@ -49,6 +49,7 @@ IsChosen x (Shared IdleJob) = may_switch x ≡ true
 IsChosen x (Shared (SwitchJob t)) = ⊥
 IsChosen x t = Unit {0}
 
+-- the task of a call is neither Idle nor a given switch
 call_chosen : (x : Own) (f : Frame) (k : Command) (r : Option Refusal) → IsChosen x (call_task f k r)
 call_chosen x f k (Some r) = tt
 call_chosen x f ToUser None = tt
@@ -58,16 +59,19 @@ call_chosen x f k None = go (needs_lane k)
     go true = tt
     go false = tt
 
+-- the task of an optional command is neither Idle nor a given switch
 command_chosen : (x : Own) (f : Frame) (o : Option Command) → Holds (IsChosen x) (command_task x f o)
 command_chosen x f None = tt
 command_chosen x f (Some k) =
     call_chosen x f k (refusal (level_at x) (not (is_null x.frames.own)) (regions_of (thread_part x.frames)) f k)
 
+-- the task that ends a frame is neither Idle nor a given switch
 end_chosen : (x : Own) (n : ℕ) (b : Body) → IsChosen x (end_task n b)
 end_chosen x n (OnBase t) = tt
 end_chosen x n (OnApc a UserApc) = tt
 end_chosen x n _ = tt
 
+-- the task of a frame is neither Idle nor a given switch
 frame_chosen : (s : Script) (p : CpuNo) (x : Own) (f : Frame) → Holds (IsChosen x) (frame_task s p x f)
 frame_chosen s p x f =
     holds_or (IsChosen x) (rewait_task f) _ (holds_when (IsChosen x) (is_some f.again) (Some (Shared RewaitJob)) (λ _. tt))
@@ -77,6 +81,7 @@ frame_chosen s p x f =
     (λ _. holds_or (IsChosen x) (normal_task f) _ (holds_when (IsChosen x) (f.kernel_phase && has_normal f.body) (Some (Alone (Normal f.name))) (λ _. tt))
     (λ _. end_chosen x f.name f.body)))))
 
+-- the task that must come first is neither Idle nor a given switch
 must_chosen : (x : Own) → Holds (IsChosen x) (must_task x)
 must_chosen x =
     holds_or (IsChosen x) (fire_task x) _ (holds_map (IsChosen x) (λ d. Shared (FireJob d)) x.fire (λ d e. tt))
@@ -98,6 +103,7 @@ no_runner x h k = go x.running refl k
     go None e q = e
     go (Some t) e q = absurd (based (frames_in x.threads t) (rw e at h.runs) q)
 
+-- without an innermost frame a processor has no own frame and its thread has none
 no_own : (x : Frames) → innermost x ≡ None → (x.own ≡ []) × (head_of (thread_part x) ≡ None)
 no_own x k = go x.own refl k
   where
@@ -105,9 +111,11 @@ no_own x k = go x.own refl k
     go [] e q = (e, q)
     go (f ∷ fs) e q = absurd cc
 
+-- three tests of which the last must fail hold together
 all_free : (a b d : Bool) → a ≡ true → b ≡ true → d ≡ false → (a && (b && not d)) ≡ true
 all_free a b d p q r = rw (p, q, r) refl
 
+-- a sound processor with no frame and no task that must come first may switch
 free_there : (c : CpuState) → IsSound c → must_task c.own ≡ None → innermost c.own.frames ≡ None → may_switch c.own ≡ true
 free_there c h m i =
     let o = no_own c.own.frames i in
@@ -115,6 +123,7 @@ free_there c h m i =
     (ap (λ (r : Option ThreadNo). is_none r) (no_runner c.own.frames h.based o.1)) (ap (λ (fs : List Frame). is_null fs) o.0)
     (ap (λ (t : Option Task). is_some t) m)
 
+-- the task of a sound processor is neither Idle nor a given switch
 task_chosen : (c : CpuState) → IsSound c → Holds (IsChosen c.own) (task c.script c.cpu c.own)
 task_chosen c h =
     holds_or (IsChosen c.own) (must_task c.own) _ (must_chosen c.own)
@@ -131,6 +140,7 @@ is_refusable IdleJob = true
 is_refusable (SwitchJob t) = true
 is_refusable job = false
 
+-- a processor that chooses its threads itself never chooses the job Idle or a Switch to a given thread
 pub never_refused : (c : CpuState) (job : Job) → IsSound c → chosen_task c.script c.cpu c.own ≡ Some (Shared job) → is_refusable job ≡ false
 never_refused c job h e = resting (is_still c.own) e
   where

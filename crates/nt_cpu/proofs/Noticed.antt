@@ -8,6 +8,7 @@ use Rattle.nt_event.specs.declared.numbers.CpuNo.{CpuNo}
 use Rattle.nt_cpu.specs.Alone.{noticed}
 use Rattle.nt_event.specs.declared.class.Asked.{Asked}
 
+-- what a processor notices by an event that is no look is its own request
 asked_is : (p : CpuNo) (w : What) (a : Asked) (n k : ℕ) → ((r : Rises) → w ≡ Look r → ⊥) → noticed p w (Some a) n k
     ≡ (if (a.cpu.0 == p.0) && (a.class == k) then n + 1 else 0)
 asked_is p (Look r) a n k h = absurd (h r refl)

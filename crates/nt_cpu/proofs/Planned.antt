@@ -23,12 +23,15 @@ use Rattle.nt_cpu.specs.declared.next.Next.{Next}
 use Rattle.nt_cpu.specs.declared.next.Next.TheVariants.{Alone, Shared}
 use Rattle.nt_cpu.specs.Plans.{IsWritten, planned}
 
+-- if what comes next touches no lane, the planned task is the event alone
 pub planned_alone : (e : Event) (o : Option Next) → o ≡ Some Alone → planned e o ≡ Some (task.Alone e.what)
 planned_alone e o h = ap (planned e) h
 
+-- if what comes next is a job under lanes, the planned task is that job
 pub planned_shared : (e : Event) (o : Option Next) (job : Job) → o ≡ Some (Shared job) → planned e o ≡ Some (task.Shared job)
 planned_shared e o job h = ap (planned e) h
 
+-- if nothing comes next, no task is planned
 pub planned_none : (e : Event) (o : Option Next) → o ≡ None → planned e o ≡ None
 planned_none e o h = ap (planned e) h
 

@@ -67,6 +67,7 @@ call_serves f k y c h = ap (λ (b : Bool). (c == 12) && b) h ∙ and_true (c == 
     and_true true = refl
     and_true false = refl
 
+-- a call that does not spin serves no class
 pub call_serves_none : (f : ℕ) (k : Command) (y : Reply) (c : ℕ) → is_spin y ≡ false → serves c (Call f k y) ≡ false
 call_serves_none f k y c h = ap (λ (b : Bool). (c == 12) && b) h ∙ and_false (c == 12)
   where

@@ -51,6 +51,7 @@ pub acted_fits : (c : CpuState) (job : Job) (f : Found) (a : Acted) → IsSound 
 acted_fits c job f a h g i =
     holds_at (GoodEvent c) (job_event c.script (stand_in c.cpu c.own) f.lanes job) a.event.what (acted_good c f.lanes job h g i.kinds) i.what
 
+-- an event that is no look looked at nothing
 no_look : (w : What) (k : ℕ) → is_look w ≡ false → looked w k ≡ 0
 no_look (Look r) k h = absurd cc
 no_look _ k h = refl

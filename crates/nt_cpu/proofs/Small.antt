@@ -224,6 +224,7 @@ module _ (m₀ : ℕ) where
       let d = h.guard in
       record { frames = all_new n m b fs h.frames; crit = omega arith; guard = omega arith }
 
+  -- a part with no frames is small for any number of events
   pub part_nil : (n : ℕ) → IsSmallPart m₀ n []
   part_nil n = record { frames = All-nil (IsSmall m₀ n); crit = omega arith; guard = omega arith }
 
@@ -299,6 +300,7 @@ module _ (m₀ : ℕ) where
       go false e =
           let l : length parts ≤ t = grind (arith, nat_tests) in rw (get_or_past parts t [] l) (part_nil n)
 
+  -- frames small for a number of events are small for one more after an event with a fitting lock and due time
   pub small_after : (s : Script) (n m : ℕ) (due : Option ℕ) (e : Event) (x : Frames) → IfSome due (λ d. d < 2 ^ 51) → LockFits m₀ e.what → AreSmall m₀ n x →
       AreSmall m₀ (n + 1) (frames_after s m due e x)
   small_after s n m due e x d l h = record {

@@ -16,11 +16,13 @@ use Rattle.nt_cpu.specs.declared.keeping.Kept.{Kept}
 use Rattle.nt_cpu.specs.Sound.{EndsInBase, IsSmall, IsSmallPart, IsSound}
 use Rattle.nt_cpu.proofs.Small.{part_nil}
 
+-- what holds of no frames holds of each thread before any event
 each_empty : (P : List Frame → Type 0) (n : ℕ) → P [] → All P (no_frames n).threads
 each_empty P n h =
     All-from_get_or P _ [] (λ i b. let k : i < n = omega (arith, length-table_from {A = List Frame} 0 n (λ _. [])) in
     rw (get_or-table {A = List Frame} n i (λ _. []) [] k) h)
 
+-- a processor of a script that fits, with no frames and nothing seen, served or made, is sound
 pub sound_start : (s : Script) (p : CpuNo) (n : ℕ) (fs : Frames) (seen : List ℕ) (kept : Kept) → IsTrue (fits s) → IsTrue (has_cpu s p) → n ≤ TURNS → fs
     ≡ no_frames (length s.threads) → seen ≡ table 16 (λ c. 0) → kept
     ≡ record { served = table 16 (λ c. 0); rested = false; took = None; fire = None; sweep = false } →

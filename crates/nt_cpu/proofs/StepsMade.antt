@@ -124,6 +124,7 @@ quiet_still c xs h e = go (is_behind c.own (value_at xs)) e
     go true q = cc
     go false q = none_still c h q
 
+-- a processor that is not cut and has nothing to do after its looks makes a quiet step
 pub step_none : (c : CpuState) (xs : List ℕ) (v u : View) → IsSound c → is_cut c.limit c.own ≡ false → local_task c xs ≡ None → AllLooked c.cpu xs v u →
     IsStepped c c xs Quiet v u u
 step_none c xs v u h t q l = record {

@@ -85,6 +85,7 @@ sound_seen c xs h l = record {
   fire = h.fire;
 }
 
+-- the first of eight tests that hold together holds
 first_test : (a b c d e f g h : Bool) → (a && b && c && d && e && f && g && h) ≡ true → a ≡ true
 first_test true b c d e f g h k = refl
 first_test false b c d e f g h k = k

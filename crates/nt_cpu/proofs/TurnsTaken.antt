@@ -56,24 +56,29 @@ turn_due c (SwitchTurn q t) job e =
 
 -- ---- what is given
 
+-- a turn of a processor that is not cut off gives the event of its task, or the turn's refusal
 gives_task : (c : CpuState) (l : Lanes) (t : Turn) → is_cut c.limit c.own ≡ false → turn_gives c l t
     ≡ event_or_refusal (turn_refusal t) (option_and_then (task_makes c.script c.cpu c.own l) (turn_task c.script c.cpu c.own t))
 gives_task c l t h = rw h refl
 
+-- a turn without a task gives its refusal, if the processor is not cut
 pub gives_none : (c : CpuState) (l : Lanes) (t : Turn) → is_cut c.limit c.own ≡ false → turn_task c.script c.cpu c.own t ≡ None → turn_gives c l t
     ≡ Err (turn_refusal t)
 gives_none c l t h e = gives_task c l t h ∙ rw e refl
 
+-- a turn whose task touches no lane gives the event of that task, if the processor is not cut
 pub gives_alone : (c : CpuState) (l : Lanes) (t : Turn) (w : What) → is_cut c.limit c.own ≡ false → turn_task c.script c.cpu c.own t ≡ Some (Alone w) →
     turn_gives c l t ≡ Ok (event_at c.script c.cpu w c.own.frames)
 gives_alone c l t w h e = gives_task c l t h ∙ rw e refl
 
+-- a turn whose task is a job gives the job's event, or its refusal where the job has none
 pub gives_shared : (c : CpuState) (l : Lanes) (t : Turn) (job : Job) → is_cut c.limit c.own ≡ false → turn_task c.script c.cpu c.own t ≡ Some (Shared job) →
     turn_gives c l t ≡ event_or_refusal (turn_refusal t) (option_map (acted_event (stand_in c.cpu c.own) l) (job_event c.script (stand_in c.cpu c.own) l job))
 gives_shared c l t job h e = gives_task c l t h ∙ rw e refl
 
 -- ---- a look at what was asked for
 
+-- a value that is looked at only where it was asked above what was seen rises or is nothing
 value_rises : (c : ℕ) (x : Own) (asked : ℕ → ℕ) (b : Bool) → nat_lt (value_at x.seen c) (asked c) ≡ b →
     (((if b then asked c else 0) == 0) || nat_lt (value_at x.seen c) (if b then asked c else 0)) ≡ true
 value_rises c x asked false k = refl
@@ -83,6 +88,7 @@ value_rises c x asked true k = rw k (or_yes (asked c == 0))
     or_yes true = refl
     or_yes false = refl
 
+-- the values of a look that is made from what was asked rise above what was seen
 values_rise : (x : Own) (asked : ℕ → ℕ) (n c : ℕ) → rise_above c (table_from c n (look_value x asked)) x.seen ≡ true
 unfolding table_from
 values_rise x asked zero c = refl
@@ -104,12 +110,15 @@ look_task c v h = rw (looks_rise c.own (v.value c.cpu) h) refl
 
 -- ---- the answers
 
+-- each turn of a processor that is cut is refused with nothing to do
 pub cut_refused : (c : CpuState) (t : Turn) (v : View) → is_cut c.limit c.own ≡ true → IsTurnRefused c t (found_by c v) NothingToDo v
 cut_refused c t v h = record { cause = inr (rw h refl); told = tells_before c.script v.states }
 
+-- no turn of a processor that is cut is tried under lanes
 pub cut_acts : (c : CpuState) (t : Turn) → is_cut c.limit c.own ≡ true → acts c t ≡ true → ⊥
 cut_acts c t h k = let a = rw h at k in cc
 
+-- a turn without a task is refused so on the floor, if the processor is not cut
 pub none_refused : (c : CpuState) (t : Turn) (r : TurnRefusal) (v : View) → is_cut c.limit c.own ≡ false → turn_task c.script c.cpu c.own t ≡ None → r
     ≡ turn_refusal t → IsTurnRefused c t (found_by c v) r v
 none_refused c t r v h e k = record {
@@ -117,12 +126,14 @@ none_refused c t r v h e k = record {
   told = tells_before c.script v.states;
 }
 
+-- a turn whose task is no job is not tried under lanes
 pub alone_acts : (c : CpuState) (t : Turn) (o : Option Task) → turn_task c.script c.cpu c.own t ≡ o → is_shared o ≡ false → acts c t ≡ true → ⊥
 alone_acts c t o e n k =
     let a = both (not (is_cut c.limit c.own)) (is_shared (turn_task c.script c.cpu c.own t)) k in
     let b : is_shared o ≡ true = rw e at a.1 in
     cc
 
+-- an event that touches no lane, made by a sound processor for its turn, is what the turn gives
 pub alone_turned : (c d : CpuState) (t : Turn) (w : What) (e : Event) (n : ℕ) (v u z : View) → IsSound c → Serves c v → is_cut c.limit c.own ≡ false →
     turn_task c.script c.cpu c.own t ≡ Some (Alone w) → e ≡ alone_event c.cpu w c.own.frames → IsAlone c d w n v u z → IsTurned c d t (found_by c v) n e v z
 alone_turned c d t w e n v u z s h k q i a =

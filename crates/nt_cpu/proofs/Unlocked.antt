@@ -9,6 +9,7 @@ use Rattle.nt_cpu.specs.Sound.{IsSound}
 use Rattle.nt_cpu.specs.States.{CpuState}
 use Rattle.nt_cpu.proofs.Taken.{innermost_small}
 
+-- no lock is held where there are no locks
 no_lock : (locks : ℕ) (o : Option Held) → locks ≡ 0 → IfSome o (λ h. h.lock.0 < locks) → is_some o ≡ false
 no_lock locks None none b = refl
 no_lock locks (Some x) none b = absurd (omega (arith, none, b))

@@ -40,6 +40,7 @@ abbrev by_values : Script → CpuNo → Own → Lanes → List ℕ → Option Tu
 by_values s p x l vs =
     if list_any (λ v. nat_lt 0 v) vs then Some (LookTurn p (record { value = vs })) else (if is_still x then None else Some (go_on_turn s p x l))
 
+-- two ways to tell what was asked that agree on the sixteen classes give the same values of a look
 same_values : (x : Own) (f g : ℕ → ℕ) → ((k : ℕ) → k < 16 → f k ≡ g k) → look_values x f ≡ look_values x g
 same_values x f g h =
     table-same 16 (look_value x f) (look_value x g) (λ k b. ap (λ (n : ℕ). if nat_lt (value_at x.seen k) n then n else 0) (h k b))
@@ -90,6 +91,7 @@ abbrev by_tests : Script → CpuNo → Own → Lanes → (ℕ → ℕ) → Bool 
 by_tests s p x l asked b r =
     if b then Some (LookTurn p (record { value = look_values x asked })) else (if r then None else Some (go_on_turn s p x l))
 
+-- the robin rule looks if the processor is behind, and else goes on unless it is still
 tested : (s : Script) (p : CpuNo) (x : Own) (l : Lanes) (asked : ℕ → ℕ) (b r : Bool) → is_behind x asked ≡ b → is_still x ≡ r → robin_at s p x l asked
     ≡ by_tests s p x l asked b r
 tested s p x l asked b r i k =
@@ -150,22 +152,27 @@ look_ready s limit p past x v b f h e =
     subst (λ (x : CpuState). (is_cut x.limit x.own ≡ false) × (is_behind x.own (v.value x.cpu) ≡ true)) (sym h)
     (ready.0, ap (list_any (λ v. nat_lt 0 v)) found ∙ ready.1)
 
+-- what holds of all lanes holds of the lanes that are found, if any are
 pub every_lanes : {P : Lanes → Type 0} (o : Option Lanes) → ((l : Lanes) → P l) → IfSome o P
 every_lanes {P} None h = tt
 every_lanes {P} (Some l) h = h l
 
+-- if one property of lanes gives another, then lanes that are found and have the one have the other
 pub those_lanes : {P Q : Lanes → Type 0} (o : Option Lanes) → ((l : Lanes) → P l → Q l) → IfSome o P → IfSome o Q
 those_lanes {P} {Q} None h i = tt
 those_lanes {P} {Q} (Some l) h i = h l i
 
 -- ---- the turn of a step
 
+-- where the robin rule chose a look, its turn is the look of that processor with the values found
 pub look_chosen : (s : Script) (past : List Event) (c : CpuChoice) (u : Unit {0}) → c.1 ≡ Look u → chosen_turn s past c ≡ look_of s c.0 past
 look_chosen s past c u h = ap (step_turn c.0 (found_values s c.0 past)) h
 
+-- where the robin rule chose a switch to a thread, its turn is that processor's switch to that thread
 pub switch_chosen : (s : Script) (past : List Event) (c : CpuChoice) (t : ThreadNo) → c.1 ≡ Switch t → chosen_turn s past c ≡ SwitchTurn c.0 t
 switch_chosen s past c t h = ap (step_turn c.0 (found_values s c.0 past)) h
 
+-- where the robin rule chose the next event, its turn is the next one of that processor
 pub next_chosen : (s : Script) (past : List Event) (c : CpuChoice) → c.1 ≡ Next → chosen_turn s past c ≡ NextTurn c.0
 next_chosen s past c h = ap (step_turn c.0 (found_values s c.0 past)) h
 
@@ -174,6 +181,7 @@ pub some_step : (s : Script) (p : CpuNo) (past : List Event) (o : Option RobinCh
     option_map (step_turn p (found_values s p past)) o ≡ t → t ≡ Some (step_turn p (found_values s p past) x)
 some_step s p past o x t h e = sym e ∙ ap (λ (z : Option RobinChoice). option_map (step_turn p (found_values s p past)) z) h
 
+-- where the robin rule found no choice for a processor, the processor has no turn
 pub no_step : (s : Script) (p : CpuNo) (past : List Event) (o : Option RobinChoice) (t : Option Turn) → o ≡ None →
     option_map (step_turn p (found_values s p past)) o ≡ t → t ≡ None
 no_step s p past o t h e = sym e ∙ ap (λ (z : Option RobinChoice). option_map (step_turn p (found_values s p past)) z) h
@@ -200,15 +208,18 @@ present s p o h = let b : has_cpu s p ≡ true = grind (arith, nat_tests) in ap 
 abbrev pub are_done : Script → ℕ → ℕ → ℕ → List Event → Bool
 are_done s limit p n past = list_all (λ done. done) (table_from p n (λ q. is_done_with s limit (cpu q) past))
 
+-- of no processors all are done
 pub done_none : (s : Script) (limit p : ℕ) (past : List Event) → are_done s limit p 0 past ≡ true
 unfolding table_from
 done_none s limit p past = refl
 
+-- the processors from one on are done if that one is and those after it are
 done_step : (s : Script) (limit p n : ℕ) (past : List Event) (b : Bool) → is_done_with s limit (cpu p) past ≡ b → are_done s limit p (suc n) past
     ≡ (b && are_done s limit (suc p) n past)
 unfolding table_from
 done_step s limit p n past b h = ap (λ (z : Bool). z && are_done s limit (suc p) n past) h
 
+-- an option is none exactly if it is not some
 is_none_some : (o : Option Turn) (b : Bool) → is_some o ≡ b → is_none o ≡ not b
 is_none_some None b h = rw (sym h) refl
 is_none_some (Some t) b h = rw (sym h) refl

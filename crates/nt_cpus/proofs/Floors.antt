@@ -11,6 +11,7 @@ use Rattle.nt_floor.specs.Views.{HasWord, IsUnmoved, View}
 use Rattle.nt_cpu.specs.Runs.{Follows, asked_rises, asks_at}
 use Rattle.nt_cpus.specs.Asking.{are_marked}
 
+-- a floor that follows a history still follows it where the floor has not moved
 pub follows_still : (s : Script) (past : List Event) (v w : View) → Follows s past v → IsUnmoved v w → Follows s past w
 follows_still s past v w h u = record {
   cpus = u.same.cpus ∙ h.cpus;
@@ -27,12 +28,14 @@ follows_still s past v w h u = record {
 
 -- ---- the values of a look
 
+-- a disjunction is the same with its parts swapped and an equal one in place of the second
 swap : (a b c : Bool) → b ≡ c → (a || b) ≡ (c || a)
 swap true true c h = rw (sym h) refl
 swap true false c h = rw (sym h) refl
 swap false true c h = rw (sym h) refl
 swap false false c h = rw (sym h) refl
 
+-- the number before a nonzero one tests equal to another exactly if that one's successor equals the first
 same_test : (v n : ℕ) → v ≢ 0 → ((v - 1) == n) ≡ (v == n + 1)
 same_test v n h = grind (arith, nat_tests)
 
@@ -44,6 +47,7 @@ asked_number s q k v (e ∷ past) h =
     (ap (λ (b : Bool). b && asks s q k e past) (same_test v (length past) h))
     ∙ ap (λ (b : Bool). ((v == length past + 1) && asks s q k e past) || b) (asked_number s q k v past h)
 
+-- a floor that follows a history tells of one value of a look whether it was asked for
 one_value : (s : Script) (past : List Event) (w : View) (p : CpuNo) (k x : ℕ) → Follows s past w → p.0 < s.cpus → k < 16 → ((x == 0) || w.marked (x - 1) p k)
     ≡ ((x == 0) || was_asked s p k x past)
 one_value s past w p k x f b h = go (x == 0) refl

@@ -10,9 +10,11 @@ use Rattle.nt_cpu.specs.Runs.{state_of}
 use Rattle.nt_cpu.specs.States.{CpuState}
 use Rattle.nt_cpus.specs.Following.{cpus_of}
 
+-- the states of the processors after a history are as many as the script has processors
 pub cpus_held : (s : Script) (limit : ℕ) (past : List Event) (xs : List CpuState) → xs ≡ cpus_of s limit past → length xs ≡ s.cpus
 cpus_held s limit past xs h = ap length h ∙ length-table_from 0 s.cpus (λ q. state_of s (cpu q) limit past)
 
+-- among the states after a history, the one at a processor's number is that processor's state
 pub cpu_held : (s : Script) (limit : ℕ) (past : List Event) (xs : List CpuState) (p : CpuNo) (d : CpuState) → xs ≡ cpus_of s limit past → p.0 < s.cpus →
     get_or xs p.0 d ≡ state_of s p limit past
 cpu_held s limit past xs p d h b = ap (λ (ys : List CpuState). get_or ys p.0 d) h ∙ get_or-table s.cpus p.0 (λ q. state_of s (cpu q) limit past) d b

@@ -29,12 +29,14 @@ use Rattle.nt_cpus.specs.Following.{cpus_of}
 
 -- ---- refusals before the processor is asked
 
+-- a turn of a processor that the script does not have is refused, as there is no such processor
 pub absent_step : (s : Script) (limit : ℕ) (t : Turn) (past : List Event) → s.cpus ≤ (cpu_at t).0 → step s limit t past ≡ Err NoSuchCpu
 absent_step s limit t past h =
     let b : nat_lt (cpu_at t).0 s.cpus ≡ false = grind (arith, nat_tests) in
     ap (λ (b : Bool). refused_if (not b) NoSuchCpu (refused_if (is_cut limit (own_of s (cpu_at t) past)) NothingToDoKind
     (uncut_step s t (own_of s (cpu_at t) past) (lanes_at s past) past))) b
 
+-- the step of a turn of a processor of the script is the uncut step, or a refusal if it is cut off
 here_step : (s : Script) (limit : ℕ) (t : Turn) (past : List Event) → (cpu_at t).0 < s.cpus → step s limit t past
     ≡ refused_if (is_cut limit (own_of s (cpu_at t) past)) NothingToDoKind (uncut_step s t (own_of s (cpu_at t) past) (lanes_at s past) past)
 here_step s limit t past h =
@@ -42,12 +44,14 @@ here_step s limit t past h =
     ap (λ (b : Bool). refused_if (not b) NoSuchCpu (refused_if (is_cut limit (own_of s (cpu_at t) past)) NothingToDoKind
     (uncut_step s t (own_of s (cpu_at t) past) (lanes_at s past) past))) b
 
+-- a turn of a processor that has used up its limit of events is refused with nothing to do
 pub cut_step : (s : Script) (limit : ℕ) (t : Turn) (past : List Event) → (cpu_at t).0 < s.cpus → is_cut limit (own_of s (cpu_at t) past) ≡ true →
     step s limit t past ≡ Err NothingToDoKind
 cut_step s limit t past h c =
     here_step s limit t past h
     ∙ ap (λ (b : Bool). refused_if b NothingToDoKind (uncut_step s t (own_of s (cpu_at t) past) (lanes_at s past) past)) c
 
+-- a look at values that were not asked for is refused as a bad look
 unasked_look : (s : Script) (t : Turn) (past : List Event) → is_asked s t past ≡ false → uncut_step s t (own_of s (cpu_at t) past) (lanes_at s past) past
     ≡ Err BadLookKind
 unasked_look s (Next p) past h = absurd cc
@@ -55,6 +59,7 @@ unasked_look s (SwitchTurn p t) past h = absurd cc
 unasked_look s (LookTurn p r) past h =
     ap (λ (b : Bool). event_or s p (own_of s p past) BadLookKind (when b (Some (Look r)))) (unasked_bad s p r (own_of s p past) past h)
 
+-- a look whose values the rules do not ask for is refused as a bad look, if the processor is not cut
 pub unasked_step : (s : Script) (limit : ℕ) (t : Turn) (past : List Event) → (cpu_at t).0 < s.cpus → is_cut limit (own_of s (cpu_at t) past) ≡ false →
     is_asked s t past ≡ false → step s limit t past ≡ Err BadLookKind
 unasked_step s limit t past h c a =
@@ -63,6 +68,7 @@ unasked_step s limit t past h c a =
 
 -- ---- what the processor gives
 
+-- where a processor makes the event of a turn on a floor that follows the run, the step gives that event
 pub turned_step : (s : Script) (limit : ℕ) (t : Turn) (past : List Event) (f : Found) (n : ℕ) (e : Event) (d : CpuState) (v w : View) → IsRun s limit past →
     (cpu_at t).0 < s.cpus → is_asked s t past ≡ true → Follows s past v → IsTurned (state_of s (cpu_at t) limit past) d t f n e v w → step s limit t past ≡ Ok e
 turned_step s limit t past f n e d v w r b a h i =
@@ -70,6 +76,7 @@ turned_step s limit t past f n e d v w r b a h i =
     sym (turn_is_step s limit t past r b a)
     ∙ ap as_step (ap (λ (l : Lanes). turn_gives (state_of s (cpu_at t) limit past) l t) (sym lanes) ∙ i.event)
 
+-- where a processor refuses a turn for a reason other than memory, the step is refused for that reason
 pub refused_step : (s : Script) (limit : ℕ) (t : Turn) (past : List Event) (f : Found) (k : TurnRefusal) (v : View) → IsRun s limit past →
     (cpu_at t).0 < s.cpus → is_asked s t past ≡ true → Follows s past v → IsTurnRefused (state_of s (cpu_at t) limit past) t f k v → (k ≡ NoMemory → ⊥) →
     step s limit t past ≡ Err (kind_of_refusal k)
@@ -86,6 +93,7 @@ refused_step s limit t past f k v r b a h i m =
 
 -- ---- the processors
 
+-- an event of another processor leaves a processor's state as it was
 cpu_stays : (s : Script) (limit : ℕ) (q : CpuNo) (past : List Event) (e : Event) → e.cpu.0 ≢ q.0 → state_of s q limit (e ∷ past) ≡ state_of s q limit past
 cpu_stays s limit q past e n = ap (λ (x : _). record { script = s; cpu = q; limit = limit; own = x }) (own_stays_on s q past e n)
 

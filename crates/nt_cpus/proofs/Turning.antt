@@ -41,6 +41,7 @@ pub taker_held : (past : List Event) (c : CpusState) (floor : Script) (v : View)
 taker_held past c floor v t p x d i b e h =
     h ∙ (ap (λ (q : CpuNo). get_or c.cpus q.0 d) e ∙ cpu_held c.script c.limit past c.cpus (cpu_at t) d i.every b)
 
+-- after a run, the state of the processor that takes a turn serves the view of the floor
 pub taker_served : (past : List Event) (c : CpusState) (floor : Script) (v : View) (t : Turn) (x : CpuState) → AreAfter past c floor v →
     (cpu_at t).0 < c.script.cpus → x ≡ state_of c.script (cpu_at t) c.limit past → Serves x v
 taker_served past c floor v t x i b h =
@@ -50,6 +51,7 @@ taker_served past c floor v t x i b h =
     drawable u =
         let r = uncut_room c.script c.limit (cpu_at t) past i.run b u in let l = i.drawable in omega (arith, r, l)
 
+-- what a processor makes of a turn, with processors and floor as after a run, is the event of the step
 pub taken_step : (past : List Event) (c : CpusState) (floor : Script) (v w : View) (t : Turn) (x d : CpuState) (y : Found) (n : ℕ) (e : Event) →
     AreAfter past c floor v → (cpu_at t).0 < c.script.cpus → is_asked c.script t past ≡ true → x ≡ state_of c.script (cpu_at t) c.limit past →
     IsTurned x d t y n e v w → step c.script c.limit t past ≡ Ok e
@@ -57,6 +59,7 @@ taken_step past c floor v w t x d y n e i b a h m =
     let k : IsTurned (state_of c.script (cpu_at t) c.limit past) d t y n e v w = subst (λ (x : CpuState). IsTurned x d t y n e v w) h m in
     turned_step c.script c.limit t past y n e d v w i.run b a i.follows k
 
+-- what a processor refuses, with processors and floor as after a run, the step refuses too, memory apart
 pub untaken_step : (past : List Event) (c : CpusState) (floor : Script) (v : View) (t : Turn) (x : CpuState) (y : Found) (r : TurnRefusal) →
     AreAfter past c floor v → (cpu_at t).0 < c.script.cpus → is_asked c.script t past ≡ true → x ≡ state_of c.script (cpu_at t) c.limit past →
     IsTurnRefused x t y r v → (r ≡ NoMemory → ⊥) → step c.script c.limit t past ≡ Err (kind_of_refusal r)
@@ -114,6 +117,7 @@ taken_asked s limit t past e b k = go (is_cut limit (own_of s (cpu_at t) past)) 
     go true false c a = let h = sym k ∙ cut_step s limit t past b c in cc
     go false false c a = let h = sym k ∙ unasked_step s limit t past b c a in cc
 
+-- a test whose negation holds fails
 no_not : (b : Bool) → not b ≡ true → b ≡ false
 no_not true h = absurd cc
 no_not false h = refl

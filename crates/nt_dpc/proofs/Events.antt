@@ -18,6 +18,7 @@ use Rattle.nt_dpc.specs.Queues.{QueueFacts, class_in}
 
 -- ---- objects
 
+-- what an event that touches a DPC object leaves of it is what the call leaves
 pub object_calls_are_events : ObjectCallsAreEvents
 object_calls_are_events =
     record {
@@ -32,15 +33,18 @@ object_calls_are_events =
 
 -- ---- queues
 
+-- an accepted insert of an object whose target is a queue adds its entry in front of this queue's list
 added : (s : Script) (objects : List ObjectState) (o : ObjectFacts) (q : QueueFacts) (n : ℕ) (by : CpuNo) → IsObject s objects o →
     queue_for o.state.target by ≡ q.cpu → add_insert s q.cpu n by (Some o.dpc) objects q.state.pending ≡ entry_of n o ∷ q.state.pending
 added s objects o q n by h e = rw (h.state, h.part, e, same q.cpu.0)
 
+-- removing a queued object drops its entry from the queue in which it stands
 dropped : (s : Script) (objects : List ObjectState) (o : ObjectFacts) (q : QueueFacts) (f m : ℕ) (by : CpuNo) → IsObject s objects o →
     o.state.standing ≡ Some (record { queue = q.cpu; number = m }) → drop_insert q.cpu by (Call f (Unqueue o.dpc) Yes)
     (Some o.dpc) objects q.state.pending ≡ without_dpc o.dpc q.state.pending
 dropped s objects o q f m by h e = rw (h.state, e, same q.cpu.0)
 
+-- what an event that touches a DPC queue leaves of it is what the call leaves
 pub queue_calls_are_events : QueueCallsAreEvents
 queue_calls_are_events =
     record {
@@ -55,6 +59,7 @@ queue_calls_are_events =
 
 -- ---- asks
 
+-- an insert asks on its queue for the class that the importance, the processor, the depth and idleness give
 asks_of_class : (s : Script) (part : Part) (o : ObjectState) (by q : CpuNo) (x : QueueState) (limit : ℕ) → limit ≡ depth_limit s →
     dpc_asks s part o by q x ≡ asks_on q (class_in part (insert_asks o.importance (eqb q.0 by.0) (nat_lt limit (depth_of x.pending + 1)) x.idle))
 asks_of_class s ThreadedPart o by q x limit e = refl
@@ -65,6 +70,7 @@ asks_of_class s OrdinaryPart o by q x limit e =
     asked true q = refl
     asked false q = refl
 
+-- an insert of an object that isn't queued asks for the class that the call answers
 pub ask_is_the_events : AskIsTheEvents
 ask_is_the_events s l o q by h at limit to free =
     rw (h.state, h.part, to, at, free) (asks_of_class s o.part o.state by q.cpu q.state q.limit limit)

@@ -35,6 +35,7 @@ fewer_without d (x ∷ xs) h = go (no_more_without d xs) (fewer_without d xs) (i
     go most fewer true e = rw (without_cons_yes d x xs e) (omega arith)
     go most fewer false e = let rest = fewer (rw e at h) in rw (without_cons_no d x xs e) (omega arith)
 
+-- a list holds the object of each insert that is in it
 stands_held : (x : Insert) (ys : List Insert) → Stands x ys → holds_dpc x.dpc ys ≡ true
 stands_held x [] at = absurd at
 stands_held x (y ∷ ys) (inl e) =
@@ -50,6 +51,7 @@ first_held part xs x h = go (find (is_high_in part) xs) refl h
     go None e k =
         sym (list_any-reverse (is_of_dpc x.dpc) xs) ∙ stands_held x (reverse xs) (find_stands (is_in part) (reverse xs) x k).0
 
+-- an object held by a list with at most one entry for each below the count is below the count
 held_below : (d : DpcNo) (count : ℕ) (xs : List Insert) → EachOnceBelow count xs → holds_dpc d xs ≡ true → d.0 < count
 held_below d count [] each h = absurd (cc)
 held_below d count (x ∷ xs) each h =
@@ -58,6 +60,7 @@ held_below d count (x ∷ xs) each h =
       | inr there ↦ held_below d count xs each.2 there
     ]
 
+-- the object of a part's first entry is held by the queue
 entry_held : (part : Part) (q : QueueFacts) (d : DpcNo) (o : Option Insert) → first_dpc part q.state.pending ≡ o →
     option_map (λ (e : DpcNo × ℕ). e.0) (option_map (λ (x : Insert). (x.dpc, x.number)) o) ≡ Some d → holds_dpc d q.state.pending ≡ true
 entry_held part q d None e h = absurd (cc)
@@ -74,6 +77,7 @@ fewer_taken part q d h =
 pub first_below : (part : Part) (xs : List Insert) (count : ℕ) (x : Insert) → EachOnceBelow count xs → first_dpc part xs ≡ Some x → x.dpc.0 < count
 first_below part xs count x each h = held_below x.dpc count xs each (first_held part xs x h)
 
+-- an object that stands in a queue by its own state is held by the queue
 stands_somewhere : (q : QueueFacts) (d : DpcNo) (s : Option Standing) → StandsHere q d s → is_some s ≡ true → holds_dpc d q.state.pending ≡ true
 stands_somewhere q d None h e = absurd (cc)
 stands_somewhere q d (Some x) h e = h.1

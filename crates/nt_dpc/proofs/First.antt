@@ -8,6 +8,7 @@ use Rattle.std.specs.List.{find, list_any}
 use Rattle.std.specs.Option.{is_some, option_or}
 use Rattle.std.proofs.lemmas.Bool.{and_parts, or_cases, or_left, or_right}
 
+-- if some insert is a High one of the part, some insert is in the part
 high_is_in : (part : Part) (xs : List Insert) → list_any (is_high_in part) xs ≡ true → list_any (is_in part) xs ≡ true
 high_is_in part [] h = h
 high_is_in part (x ∷ xs) h =
@@ -16,10 +17,12 @@ high_is_in part (x ∷ xs) h =
       | inr there ↦ or_right (is_in part x) (list_any (is_in part) xs) (high_is_in part xs there)
     ]
 
+-- one of two options has a value exactly if a test passes, if the second does so and the first only then
 either : (a b : Option Insert) (any : Bool) → (is_some a ≡ true → any ≡ true) → is_some b ≡ any → is_some (option_or a b) ≡ any
 either (Some x) b any h k = sym (h refl)
 either None b any h k = k
 
+-- a part has a first entry exactly if some pending insert is in the part
 pub is_some-first_dpc : (part : Part) (xs : List Insert) → is_some (first_dpc part xs) ≡ list_any (is_in part) xs
 is_some-first_dpc part xs =
     either (find (is_high_in part) xs) (find (is_in part) (reverse xs)) (list_any (is_in part) xs)

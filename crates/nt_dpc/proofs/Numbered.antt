@@ -20,6 +20,7 @@ abbrev pub Falls : List Insert → Type 0
 Falls [] = Unit {0}
 Falls (x ∷ xs) = AllBelow x.number xs × Falls xs
 
+-- an insert in a list whose numbers are all below a bound has a number below it
 below_at : (n : ℕ) (xs : List Insert) (y : Insert) → AllBelow n xs → Stands y xs → y.number < n
 below_at n [] y h at = absurd at
 below_at n (x ∷ xs) y h (inl e) = rw (ap (λ (z : Insert). z.number) e) h.0
@@ -27,6 +28,7 @@ below_at n (x ∷ xs) y h (inr at) = below_at n xs y h.1 at
 
 -- ---- what a find gives
 
+-- if a search finds no insert, no insert of the list passes the test
 pub find_none : (p : Insert → Bool) (xs : List Insert) (y : Insert) → find p xs ≡ None → Stands y xs → p y ≡ false
 find_none p [] y h at = absurd at
 find_none p (x ∷ xs) y h at = go p x xs y (find_none p xs y) h at (p x) refl
@@ -37,6 +39,7 @@ find_none p (x ∷ xs) y h at = go p x xs y (find_none p xs y) h at (p x) refl
     go p x xs y rest h (inl e) false k = rw e k
     go p x xs y rest h (inr at) false k = rest (rw k at h) at
 
+-- the insert that a search finds is in the list and passes the test
 pub find_stands : (p : Insert → Bool) (xs : List Insert) (x : Insert) → find p xs ≡ Some x → Stands x xs × (p x ≡ true)
 find_stands p [] x h = absurd (cc)
 find_stands p (y ∷ xs) x h = go p y xs x (find_stands p xs x) h (p y) refl
@@ -63,6 +66,7 @@ find_greatest p (z ∷ xs) x y f h at t = go p z xs x y f (find_greatest p xs x 
     go p z xs x y f rest h (inl e) t false k = absurd (false≢true (sym k ∙ (rw e at t)))
     go p z xs x y f rest h (inr at) t false k = rest (rw k at h) at t
 
+-- searching the reverse of a list with one more in front tries the rest first, that one last
 find-reverse : (p : Insert → Bool) (z : Insert) (xs : List Insert) → find p (reverse (z ∷ xs)) ≡ option_or (find p (reverse xs)) (find p (z ∷ []))
 find-reverse p z xs = rw (reverse-append (z ∷ []) xs) (find-append p (reverse xs) (z ∷ []))
 
@@ -77,6 +81,7 @@ abbrev pub LastIsLeast : (p : Insert → Bool) → List Insert → Option Insert
 LastIsLeast p xs None = (y : Insert) → Stands y xs → p y ≡ false
 LastIsLeast p xs (Some x) = IsLeast p xs x
 
+-- if numbers fall along a list, the last insert that passes a test has the least number of those that do
 pub find_last : (p : Insert → Bool) (xs : List Insert) → Falls xs → LastIsLeast p xs (find p (reverse xs))
 find_last p [] f = λ y at. absurd at
 find_last p (z ∷ xs) f = rw (find-reverse p z xs) (go p z xs f (find p (reverse xs)) (find_last p xs f.1) (p z) refl)

@@ -16,6 +16,7 @@ use Rattle.std.proofs.lemmas.Bool.{and_parts, eq-eqb, false≢true, or_left, or_
 
 -- ---- what stands in the list without an object's entries
 
+-- an insert left after an object's entries are taken out is of another object and was in the list
 stands-without : (d : DpcNo) (x : Insert) (ys : List Insert) → Stands x (without_dpc d ys) → (is_of_dpc d x ≡ false) × Stands x ys
 stands-without d x [] at = absurd at
 stands-without d x (y ∷ ys) at = go d x y ys (stands-without d x ys) at (is_of_dpc d y) refl
@@ -29,6 +30,7 @@ stands-without d x (y ∷ ys) at = go d x y ys (stands-without d x ys) at (is_of
         here (inl e) = (rw e k, inl e)
         here (inr later) = let r = rest later in (r.0, inr r.1)
 
+-- an insert of another object stays in the list when an object's entries are taken out
 without-stands : (d : DpcNo) (x : Insert) (ys : List Insert) → is_of_dpc d x ≡ false → Stands x ys → Stands x (without_dpc d ys)
 without-stands d x [] h at = absurd at
 without-stands d x (y ∷ ys) h at = go d x y ys h (without-stands d x ys h) at (is_of_dpc d y) refl
@@ -42,6 +44,7 @@ without-stands d x (y ∷ ys) h at = go d x y ys h (without-stands d x ys h) at 
 
 -- ---- the list after the changes is that of the pending inserts
 
+-- each insert in a queue's list after a list of changes was made and not used up since
 pub stands_pending : (p : CpuNo) (count limit : ℕ) (past : List QueueChange) (x : Insert) →
     Stands x (after_changes (new_queue p count limit) past).state.pending → IsPending x past
 stands_pending p count limit [] x at = at
@@ -53,6 +56,7 @@ stands_pending p count limit (Taken d ∷ past) x at =
     let r = stands-without d x (after_changes (new_queue p count limit) past).state.pending at in (r.0, stands_pending p count limit past x r.1)
 stands_pending p count limit (Idled idle ∷ past) x at = stands_pending p count limit past x at
 
+-- each insert that was made and not used up since is in the queue's list
 pub pending_stands : (p : CpuNo) (count limit : ℕ) (past : List QueueChange) (x : Insert) → IsPending x past →
     Stands x (after_changes (new_queue p count limit) past).state.pending
 pending_stands p count limit [] x h = h
@@ -66,6 +70,7 @@ pending_stands p count limit (Idled idle ∷ past) x h = pending_stands p count 
 
 -- ---- numbers fall along the list
 
+-- numbers below a bound stay below it when an object's entries are taken out
 below-without : (d : DpcNo) (n : ℕ) (xs : List Insert) → AllBelow n xs → AllBelow n (without_dpc d xs)
 below-without d n [] h = tt
 below-without d n (x ∷ xs) h = go d n x xs h (below-without d n xs h.1) (is_of_dpc d x) refl
@@ -75,6 +80,7 @@ below-without d n (x ∷ xs) h = go d n x xs h (below-without d n xs h.1) (is_of
     go d n x xs h rest true k = rw (without_cons_yes d x xs k) rest
     go d n x xs h rest false k = rw (without_cons_no d x xs k) (h.0, rest)
 
+-- numbers that fall along a list still fall when an object's entries are taken out
 falls-without : (d : DpcNo) (xs : List Insert) → Falls xs → Falls (without_dpc d xs)
 falls-without d [] h = tt
 falls-without d (x ∷ xs) h = go d x xs h (falls-without d xs h.1) (is_of_dpc d x) refl
@@ -84,6 +90,7 @@ falls-without d (x ∷ xs) h = go d x xs h (falls-without d xs h.1) (is_of_dpc d
     go d x xs h rest true k = rw (without_cons_yes d x xs k) rest
     go d x xs h rest false k = rw (without_cons_no d x xs k) (below-without d x.number xs h.0, rest)
 
+-- if all added numbers are below a bound, the pending inserts' numbers are below it
 added_below : (p : CpuNo) (count limit n : ℕ) (past : List QueueChange) → AddedBelow n past →
     AllBelow n (after_changes (new_queue p count limit) past).state.pending
 added_below p count limit n [] h = tt
@@ -94,6 +101,7 @@ added_below p count limit n (Taken d ∷ past) h =
     below-without d n (after_changes (new_queue p count limit) past).state.pending (added_below p count limit n past h)
 added_below p count limit n (Idled idle ∷ past) h = added_below p count limit n past h
 
+-- if insert numbers rise, the numbers of the pending inserts fall along the list
 falls : (p : CpuNo) (count limit : ℕ) (past : List QueueChange) → NumbersRise past → Falls (after_changes (new_queue p count limit) past).state.pending
 falls p count limit [] h = tt
 falls p count limit (Added x ∷ past) h = (added_below p count limit x.number past h.0, falls p count limit past h.1)
@@ -137,11 +145,13 @@ first_of part past xs f to from = go (find (is_high_in part) xs) refl
           oldest = λ h. absurd (false≢true (sym h ∙ high.0));
         }
 
+-- if insert numbers rise, a part's first is its newest pending High insert, else its oldest pending one
 pub first_by_number : FirstByNumber
 first_by_number p count limit past h part =
     first_of part past (after_changes (new_queue p count limit) past).state.pending (falls p count limit past h) (stands_pending p count limit past)
     (pending_stands p count limit past)
 
+-- the first entry of a part is in the list of pending inserts
 pub first_stands : (part : Part) (xs : List Insert) (x : Insert) → first_dpc part xs ≡ Some x → Stands x xs
 first_stands part xs x h = go (find (is_high_in part) xs) refl h
   where
@@ -149,6 +159,7 @@ first_stands part xs x h = go (find (is_high_in part) xs) refl h
     go None e h = find_last_stands (is_in part) xs x h
     go (Some y) e h = (find_stands (is_high_in part) xs x (e ∙ h)).0
 
+-- an object whose insert was just removed or taken isn't the first of any part
 pub removed_is_gone : RemovedIsGone
 removed_is_gone q past d part =
     let xs = (after_changes q past).state.pending in
@@ -158,6 +169,7 @@ removed_is_gone q past d part =
 
 -- ---- one entry each
 
+-- changes of a queue leave its count of objects as it was
 count_stays : (q : QueueFacts) (past : List QueueChange) → (after_changes q past).count ≡ q.count
 count_stays q [] = refl
 count_stays q (Added x ∷ past) = count_stays q past
@@ -165,6 +177,7 @@ count_stays q (Removed d ∷ past) = count_stays q past
 count_stays q (Taken d ∷ past) = count_stays q past
 count_stays q (Idled idle ∷ past) = count_stays q past
 
+-- if each change was accepted, the queue has at most one entry for each object below the count
 pub each_once : (p : CpuNo) (count limit : ℕ) (past : List QueueChange) → AllAccepted (new_queue p count limit) past →
     EachOnceBelow count (after_changes (new_queue p count limit) past).state.pending
 each_once p count limit [] h = tt
@@ -177,12 +190,14 @@ each_once p count limit (Taken d ∷ past) h =
     each_once-without d count (after_changes (new_queue p count limit) past).state.pending (each_once p count limit past h.1)
 each_once p count limit (Idled idle ∷ past) h = each_once p count limit past h.1
 
+-- a list that has an insert of an object's number holds the object
 stands_holds : (d : DpcNo) (y : Insert) (xs : List Insert) → y.dpc.0 ≡ d.0 → Stands y xs → holds_dpc d xs ≡ true
 stands_holds d y [] e at = absurd at
 stands_holds d y (x ∷ xs) e (inl same) =
     or_left (is_of_dpc d x) (holds_dpc d xs) (eq-eqb x.dpc.0 d.0 (sym (ap (λ (z : Insert). z.dpc.0) same) ∙ e))
 stands_holds d y (x ∷ xs) e (inr at) = or_right (is_of_dpc d x) (holds_dpc d xs) (stands_holds d y xs e at)
 
+-- two inserts of one object in a list with at most one entry for each object are the same
 only : (count : ℕ) (xs : List Insert) (x y : Insert) → EachOnceBelow count xs → Stands x xs → Stands y xs → x.dpc.0 ≡ y.dpc.0 → x ≡ y
 only count [] x y h at to e = absurd at
 only count (z ∷ xs) x y h (inl s) (inl t) e = s ∙ sym t
@@ -192,6 +207,7 @@ only count (z ∷ xs) x y h (inr at) (inl t) e =
     absurd (false≢true (sym h.1 ∙ stands_holds z.dpc x xs (e ∙ ap (λ (w : Insert). w.dpc.0) t) at))
 only count (z ∷ xs) x y h (inr at) (inr to) e = only count xs x y h.2 at to e
 
+-- if each change was accepted, an object has at most one pending insert
 pub one_entry_each : OneEntryEach
 one_entry_each p count limit past h x y at to e =
     only count (after_changes (new_queue p count limit) past).state.pending x y (each_once p count limit past h) (pending_stands p count limit past x at)

@@ -10,6 +10,7 @@ use Rattle.nt_dpc.proofs.Numbered.{Stands}
 use Rattle.nt_dpc.proofs.Once.{without_cons_no, without_cons_yes}
 use Rattle.nt_dpc.proofs.Pending.{first_stands}
 
+-- a queue in which an insert stands has an entry of the insert's object
 pub stands_holds : (x : Insert) (xs : List Insert) → Stands x xs → holds_dpc x.dpc xs ≡ true
 stands_holds x [] at = absurd at
 stands_holds x (y ∷ xs) (inl same) =
@@ -20,6 +21,7 @@ stands_holds x (y ∷ xs) (inr at) = or_right (is_of_dpc x.dpc y) (holds_dpc x.d
 pub first_holds : (part : Part) (xs : List Insert) (x : Insert) → first_dpc part xs ≡ Some x → holds_dpc x.dpc xs ≡ true
 first_holds part xs x h = stands_holds x xs (first_stands part xs x h)
 
+-- an entry of one DPC object is not an entry of another
 apart : (d e : DpcNo) (x : Insert) → eqb d.0 e.0 ≡ false → is_of_dpc d x ≡ true → is_of_dpc e x ≡ false
 apart d e x h k = ne_eqb x.dpc.0 e.0 (λ s. eqb-false d.0 e.0 h (sym (eqb-true x.dpc.0 d.0 k) ∙ s))
 

@@ -49,12 +49,14 @@ queues_left n by w x =
 
 -- ---- objects
 
+-- an event that changes no object's state leaves all objects as they were
 objects_stay : (x : DpcLanes) (n : ℕ) (by : CpuNo) (w : What) → Agrees x → ((d : DpcNo) (o : ObjectState) → object_after d n by w o ≡ o) →
     objects_left n by w x ≡ x.objects
 objects_stay x n by w a stays =
     table-self start_object (length x.script.dpcs) x.objects (λ d. object_after (dpc d) n by w (object_in x.objects (dpc d))) a.objects
     (λ i l. stays (dpc i) (object_in x.objects (dpc i)))
 
+-- an event that changes one object's state alone leaves the objects with that one set
 object_left : (x : DpcLanes) (n : ℕ) (by : CpuNo) (w : What) (d : DpcNo) (v : ObjectState) → Agrees x → object_after d n by w (object_in x.objects d) ≡ v →
     ((e : DpcNo) (o : ObjectState) → eqb d.0 e.0 ≡ false → object_after e n by w o ≡ o) → objects_left n by w x ≡ set x.objects d.0 v
 object_left x n by w d v a here others =
@@ -66,12 +68,14 @@ object_left x n by w d v a here others =
 
 -- ---- queues
 
+-- an event that changes no queue's state leaves all queues as they were
 queues_stay : (x : DpcLanes) (n : ℕ) (by : CpuNo) (w : What) → Agrees x → ((p : CpuNo) (q : QueueState) → queue_after x.script p n by w x.objects q ≡ q) →
     queues_left n by w x ≡ x.queues
 queues_stay x n by w a stays =
     table-self start_queue x.script.cpus x.queues (λ p. queue_after x.script (cpu p) n by w x.objects (queue_in x.queues (cpu p))) a.queues
     (λ i l. stays (cpu i) (queue_in x.queues (cpu i)))
 
+-- an event that changes one queue's state alone leaves the queues with that one set
 queue_left : (x : DpcLanes) (n : ℕ) (by : CpuNo) (w : What) (p : CpuNo) (v : QueueState) → Agrees x →
     queue_after x.script p n by w x.objects (queue_in x.queues p) ≡ v → ((r : CpuNo) (q : QueueState) → eqb p.0 r.0 ≡ false →
     queue_after x.script r n by w x.objects q ≡ q) → queues_left n by w x ≡ set x.queues p.0 v
@@ -89,12 +93,14 @@ same_idle : (by p : CpuNo) (xs : List Insert) (q : QueueState) → (let y : Queu
 } in y) ≡ record q { pending = xs }
 same_idle by p xs q = λ i. record { pending = xs; idle = either_way (eqb by.0 p.0) q.idle i }
 
+-- what an event leaves of the lanes is the objects and the queues that it leaves
 both_left : (x : DpcLanes) (n : ℕ) (by : CpuNo) (w : What) (os : List ObjectState) (qs : List QueueState) → objects_left n by w x ≡ os →
     queues_left n by w x ≡ qs → left n by w x ≡ record x { objects = os; queues = qs }
 both_left x n by w os qs o q = λ i. record x { objects = o i; queues = q i }
 
 -- ---- events that change nothing here
 
+-- an event that changes no object and no queue leaves the lanes as they were
 nothing_left : (x : DpcLanes) (n : ℕ) (by : CpuNo) (w : What) → Agrees x → ((d : DpcNo) (o : ObjectState) → object_after d n by w o ≡ o) →
     ((p : CpuNo) (q : QueueState) → queue_after x.script p n by w x.objects q ≡ record q { idle = cond (eqb by.0 p.0) q.idle q.idle }) → left n by w x ≡ x
 nothing_left x n by w a o q =
@@ -109,6 +115,7 @@ abbrev queue_there : CpuNo → DpcLanes → QueueFacts
 queue_there p x =
     record { cpu = p; count = length x.script.dpcs; limit = depth_limit x.script; state = queue_in x.queues p }
 
+-- the object found in the lanes under a number is the script's object of that number
 is_there : (d : DpcNo) (x : DpcLanes) → IsObject x.script x.objects (object_there d x)
 is_there d x = record { state = refl; part = refl }
 
@@ -121,6 +128,7 @@ abbrev queue_inserted : ℕ → CpuNo → DpcNo → DpcLanes → QueueState
 queue_inserted n p d x =
     add_entry (new_insert x.script d n (object_in x.objects d)) (queue_in x.queues p)
 
+-- a queue call that is accepted leaves the object inserted in its target's queue, or else in the caller's
 queued_left : (x : DpcLanes) (n f : ℕ) (by : CpuNo) (d : DpcNo) → Agrees x →
     left n by (Call f (Queue d) Yes) x ≡ inserted_at n (queue_for (object_in x.objects d).target by) d x
 queued_left x n f by d a =
@@ -132,6 +140,7 @@ queued_left x n f by d a =
     (queue_calls_are_events.queue x.script x.objects (object_there d x) (queue_there p x) n f by (is_there d x) refl)
     (λ r q k. rw k (same_idle by r q.pending q)))
 
+-- a fired timer that inserts its DPC leaves the object inserted in its target's queue, or the processor's own
 fired_left : (x : DpcLanes) (n : ℕ) (by : CpuNo) (d : DpcNo) → Agrees x →
     left n by (Fire d Yes) x ≡ inserted_at n (queue_for (object_in x.objects d).target by) d x
 fired_left x n by d a =
@@ -151,6 +160,7 @@ object_removed d x = standing_nowhere (object_in x.objects d)
 abbrev queue_removed : CpuNo → DpcNo → DpcLanes → QueueState
 queue_removed p d x = drop_entry d (queue_in x.queues p)
 
+-- an accepted removal of an object that stands in a queue leaves it removed from that queue
 unqueued_left : (x : DpcLanes) (n f : ℕ) (by : CpuNo) (d : DpcNo) (at : Standing) → Agrees x → (object_in x.objects d).standing ≡ Some at →
     left n by (Call f (Unqueue d) Yes) x ≡ removed_at at.queue d x
 unqueued_left x n f by d at a e =
@@ -162,6 +172,7 @@ unqueued_left x n f by d at a e =
     (queue_calls_are_events.unqueue x.script x.objects (object_there d x) (queue_there p x) n f at.number by (is_there d x) e)
     (λ r q k. rw (e, k) (same_idle by r q.pending q)))
 
+-- the begin of an ordinary DPC leaves its object removed from the processor's queue
 dpc_left : (x : DpcLanes) (n from : ℕ) (by : CpuNo) (d : DpcNo) → Agrees x → left n by (Begin (Dpc d) from) x ≡ removed_at by d x
 dpc_left x n from by d a =
     let w : What = Begin (Dpc d) from in
@@ -169,6 +180,7 @@ dpc_left x n from by d a =
     (object_left x n by w d (object_removed d x) a (object_calls_are_events.begin_dpc (object_there d x) n from by) (λ e o k. rw k))
     (queue_left x n by w by (queue_removed by d x) a (queue_calls_are_events.begin_dpc x.script x.objects d (queue_there by x) n from) (λ r q k. rw k))
 
+-- the begin of a threaded DPC leaves its object removed from the processor's queue
 threaded_left : (x : DpcLanes) (n from : ℕ) (by : CpuNo) (d : DpcNo) → Agrees x → left n by (Begin (Threaded d) from) x ≡ removed_at by d x
 threaded_left x n from by d a =
     let w : What = Begin (Threaded d) from in
@@ -178,6 +190,7 @@ threaded_left x n from by d a =
 
 -- ---- importance, target, idle mark
 
+-- a call that sets an importance leaves the object with it and everything else as it was
 important_left : (x : DpcLanes) (n f : ℕ) (by : CpuNo) (d : DpcNo) (i : Importance) → Agrees x →
     left n by (Call f (SetImportanceCall d i) Done) x ≡ with_object d (with_importance i (object_in x.objects d)) x
 important_left x n f by d i a =
@@ -186,6 +199,7 @@ important_left x n f by d i a =
     (object_left x n by w d (with_importance i (object_in x.objects d)) a (object_calls_are_events.importance (object_there d x) n f by i) (λ e o k. rw k))
     (queues_stay x n by w a (λ r q. same_idle by r q.pending q))
 
+-- a call that sets a target leaves the object with it and everything else as it was
 targeted_left : (x : DpcLanes) (n f : ℕ) (by : CpuNo) (d : DpcNo) (t : Option CpuNo) → Agrees x →
     left n by (Call f (SetTargetCall d t) Done) x ≡ with_object d (with_target t (object_in x.objects d)) x
 targeted_left x n f by d t a =
@@ -194,6 +208,7 @@ targeted_left x n f by d t a =
     (object_left x n by w d (with_target t (object_in x.objects d)) a (object_calls_are_events.target (object_there d x) n f by t) (λ e o k. rw k))
     (queues_stay x n by w a (λ r q. same_idle by r q.pending q))
 
+-- a processor that rests leaves its own queue marked idle
 rest_left : (x : DpcLanes) (n : ℕ) (by : CpuNo) → Agrees x → left n by RestEvent x ≡ with_queue by (set_idle true (queue_in x.queues by)) x
 rest_left x n by a =
     both_left x n by RestEvent x.objects (set x.queues by.0 (set_idle true (queue_in x.queues by)))
@@ -201,6 +216,7 @@ rest_left x n by a =
     (queue_left x n by RestEvent by (set_idle true (queue_in x.queues by)) a (queue_calls_are_events.rest x.script x.objects (queue_there by x) n)
     (λ r q k. rw k))
 
+-- a switch of threads leaves the processor's own queue marked not idle
 switch_left : (x : DpcLanes) (n : ℕ) (by : CpuNo) (t : ThreadNo) (status : Option ℕ) → Agrees x →
     left n by (Switch t status) x ≡ with_queue by (set_idle false (queue_in x.queues by)) x
 switch_left x n by t status a =
@@ -212,19 +228,23 @@ switch_left x n by t status a =
 
 -- ---- every event
 
+-- if the answer of a test is yes, the test holds
 queued_where_yes : (b : Bool) → Yes ≡ yes_if b → b ≡ true
 queued_where_yes true h = refl
 queued_where_yes false h = cc
 
+-- if the answer of a test's negation is yes, the test fails
 free_where_yes : (b : Bool) → Yes ≡ yes_if (not b) → b ≡ false
 free_where_yes true h = cc
 free_where_yes false h = refl
 
+-- an accepted removal leaves the object removed from where it stands, whichever queue that is
 removal_left : (x : DpcLanes) (n f : ℕ) (by : CpuNo) (d : DpcNo) (at : Option Standing) → Agrees x → (object_in x.objects d).standing ≡ at →
     is_some at ≡ true → left n by (Call f (Unqueue d) Yes) x ≡ removed_from at d x
 removal_left x n f by d None a e h = cc
 removal_left x n f by d (Some at) a e h = unqueued_left x n f by d at a e
 
+-- an event that may be made leaves of objects and queues what its change leaves
 pub left_is : (x : DpcLanes) (n : ℕ) (by : CpuNo) (w : What) → Agrees x → MayLeave x by w → left n by w x ≡ changed n by (change_of w) x
 left_is x n by (Call f (Queue d) Yes) a m = queued_left x n f by d a
 left_is x n by (Fire d Yes) a m = fired_left x n by d a
@@ -249,6 +269,7 @@ in_script xs d p h =
           (get_or_past xs d.0 start_object l) at h in false≢true bad)
     ]
 
+-- the first insert of a part of a queue is of an object of the script
 pub first_in_script : (x : DpcLanes) (p : CpuNo) (part : Part) (i : Insert) → Agrees x → first_dpc part (queue_in x.queues p).pending ≡ Some i →
     IsTrue (has_dpc x.script i.dpc)
 first_in_script x p part i a h =
@@ -269,6 +290,7 @@ taken x p part d w a h same = go (first_dpc part (queue_in x.queues p).pending) 
         let is : i.dpc ≡ d = same i at in
         (rw is at (first_in_script x p part i a e), rw e (ap Some is))
 
+-- the change of an event that may be made may be made too
 pub may_change : (x : DpcLanes) (by : CpuNo) (w : What) → Agrees x → MayLeave x by w → MayChange x by (change_of w)
 may_change x by (Call f (Queue d) Yes) a m = (m.object, free_where_yes (is_queued (object_in x.objects d)) m.reply)
 may_change x by (Fire d Yes) a m = (m.object, free_where_yes (is_queued (object_in x.objects d)) m.reply)

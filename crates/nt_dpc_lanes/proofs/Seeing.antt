@@ -38,14 +38,17 @@ pub record AreSeen (s : Script) (os : List ObjectFacts) (qs : List QueueFacts) (
   pub kept : AreKept s os qs
   pub seen : lanes_of s os qs ≡ x
 
+-- objects and queues that contracts see agree
 pub seen_agree : (s : Script) (os : List ObjectFacts) (qs : List QueueFacts) (x : DpcLanes) → AreSeen s os qs x → Agrees x
 seen_agree s os qs x h = subst Agrees h.seen h.kept.agree
 
+-- the state of an object that is kept is the state that contracts see
 pub seen_object : (s : Script) (os : List ObjectFacts) (qs : List QueueFacts) (x : DpcLanes) (d : DpcNo) → AreSeen s os qs x →
     (object_facts os d).state ≡ object_in x.objects d
 seen_object s os qs x d h =
     sym (object_state s os qs d) ∙ ap (λ (y : DpcLanes). object_in y.objects d) h.seen
 
+-- the state of a queue that is kept is the state that contracts see
 pub seen_queue : (s : Script) (os : List ObjectFacts) (qs : List QueueFacts) (x : DpcLanes) (p : CpuNo) → AreSeen s os qs x →
     (queue_facts qs p).state ≡ queue_in x.queues p
 seen_queue s os qs x p h = sym (queue_state s os qs p) ∙ ap (λ (y : DpcLanes). queue_in y.queues p) h.seen
@@ -57,6 +60,7 @@ object_place s os qs x d h t =
     let u : IsTrue (has_dpc s d) = subst (λ (y : DpcLanes). IsTrue (has_dpc y.script d)) (sym h.seen) t in
     omega (arith, ltb-true d.0 (length s.dpcs) u, h.kept.agree.objects, length-map os (λ (o : ObjectFacts). o.state))
 
+-- a processor of the script has a place in the list of queues
 pub queue_place : (s : Script) (os : List ObjectFacts) (qs : List QueueFacts) (x : DpcLanes) (p : CpuNo) → AreSeen s os qs x → IsTrue (has_cpu x.script p) →
     p.0 < length qs
 queue_place s os qs x p h t =
@@ -65,19 +69,23 @@ queue_place s os qs x p h t =
 
 -- ---- what is read
 
+-- an object read at its place in the list is the object of its number, whatever the default
 pub read_object : (s : Script) (os : List ObjectFacts) (qs : List QueueFacts) (x : DpcLanes) (d : DpcNo) (o : ObjectFacts) → AreSeen s os qs x →
     IsTrue (has_dpc x.script d) → o ≡ get_or os d.0 o → o ≡ object_facts os d
 read_object s os qs x d o h t e = e ∙ get_or_default os d.0 o (new_object (dpc 0) false) (object_place s os qs x d h t)
 
+-- a queue read at its place in the list is the queue of its processor, whatever the default
 pub read_queue : (s : Script) (os : List ObjectFacts) (qs : List QueueFacts) (x : DpcLanes) (p : CpuNo) (q : QueueFacts) → AreSeen s os qs x →
     IsTrue (has_cpu x.script p) → q ≡ get_or qs p.0 q → q ≡ queue_facts qs p
 read_queue s os qs x p q h t e = e ∙ get_or_default qs p.0 q (new_queue (cpu 0) 0 0) (queue_place s os qs x p h t)
 
+-- the object kept at the number of a DPC object of the script is that object
 pub object_of_script : (s : Script) (os : List ObjectFacts) (qs : List QueueFacts) (x : DpcLanes) (d : DpcNo) → AreSeen s os qs x →
     IsTrue (has_dpc x.script d) → IsObjectOf x.script d (object_facts os d)
 object_of_script s os qs x d h t =
     subst (λ (y : DpcLanes). IsObjectOf y.script d (object_facts os d)) h.seen (h.kept.object d (object_place s os qs x d h t))
 
+-- the queue kept at the number of a processor of the script is that processor's queue
 pub queue_of_script : (s : Script) (os : List ObjectFacts) (qs : List QueueFacts) (x : DpcLanes) (p : CpuNo) → AreSeen s os qs x →
     IsTrue (has_cpu x.script p) → IsQueueOf x.script p (queue_facts qs p)
 queue_of_script s os qs x p h t =
@@ -85,6 +93,7 @@ queue_of_script s os qs x p h t =
 
 -- ---- what contracts see of one object and one queue
 
+-- the queue in which a processor of the script inserts an object is one of the script's processors'
 pub queue_for_in : (x : DpcLanes) (d : DpcNo) (by : CpuNo) → Agrees x → IsTrue (has_cpu x.script by) →
     (queue_for (object_in x.objects d).target by).0 < x.script.cpus
 queue_for_in x d by a t = go (object_in x.objects d).target (a.target d)
@@ -101,6 +110,7 @@ queue_in_script xs d p h =
       | inr l ↦ absurd (let bad : holds_dpc d start_queue.pending ≡ true = rw (get_or_past xs p.0 start_queue l) at h in false≢true bad)
     ]
 
+-- an object stands in the queue of a processor of the script only
 stand_in : (x : DpcLanes) (d : DpcNo) (p : CpuNo) → Agrees x → is_queue (stand_of (object_in x.objects d)) p ≡ true → p.0 < x.script.cpus
 stand_in x d p a h =
     let l : p.0 < length x.queues = queue_in_script x.queues d p (a.stands d p ∙ h) in omega (arith, a.queues)
@@ -145,6 +155,7 @@ asked_is x d by p o q class free to os io qs iq e l eo eq =
 
 -- ---- what contracts see after a change
 
+-- contracts see the insert of an object that was not queued, once both lists are written
 pub insert_seen : (s : Script) (os : List ObjectFacts) (qs : List QueueFacts) (x : DpcLanes) (n : ℕ) (p : CpuNo) (d : DpcNo) (os2 : List ObjectFacts)
     (qs2 : List QueueFacts) → AreSeen s os qs x → ArePlaces os qs d p → is_queued (object_in x.objects d) ≡ false →
     os2 ≡ set os d.0 (inserted_object n p d os qs) → qs2 ≡ set qs p.0 (inserted_queue n p d os qs) → AreSeen s os2 qs2 (inserted_at n p d x)
@@ -154,6 +165,7 @@ insert_seen s os qs x n p d os2 qs2 h at free eo eq =
       seen = rw (eo, eq) (inserted_seen s os qs n p d h.kept at ∙ ap (inserted_at n p d) h.seen);
     }
 
+-- contracts see the removal of an object from the queue in which it stands, once both lists are written
 pub removed_is_seen : (s : Script) (os : List ObjectFacts) (qs : List QueueFacts) (x : DpcLanes) (p : CpuNo) (d : DpcNo) (os2 : List ObjectFacts)
     (qs2 : List QueueFacts) → AreSeen s os qs x → ArePlaces os qs d p → is_queue (stand_of (object_in x.objects d)) p ≡ true →
     os2 ≡ set os d.0 (unqueued (object_facts os d)) → qs2 ≡ set qs p.0 (removed_queue p d os qs) → AreSeen s os2 qs2 (removed_at p d x)
@@ -163,6 +175,7 @@ removed_is_seen s os qs x p d os2 qs2 h at here eo eq =
       seen = rw (eo, eq) (removed_seen s os qs p d h.kept at ∙ ap (removed_at p d) h.seen);
     }
 
+-- contracts see an object's new importance, once the list of objects is written
 pub importance_seen : (s : Script) (os : List ObjectFacts) (qs : List QueueFacts) (x : DpcLanes) (d : DpcNo) (i : Importance) (os2 : List ObjectFacts) →
     AreSeen s os qs x → d.0 < length os → os2 ≡ set os d.0 (important i d os) → AreSeen s os2 qs (with_object d (with_importance i (object_in x.objects d)) x)
 importance_seen s os qs x d i os2 h l e =
@@ -171,6 +184,7 @@ importance_seen s os qs x d i os2 h l e =
       seen = rw e (important_seen s os qs d i ∙ ap (λ (y : DpcLanes). with_object d (with_importance i (object_in y.objects d)) y) h.seen);
     }
 
+-- contracts see an object's new target, none or a processor of the script, once the list is written
 pub target_seen : (s : Script) (os : List ObjectFacts) (qs : List QueueFacts) (x : DpcLanes) (d : DpcNo) (t : Option CpuNo) (os2 : List ObjectFacts) →
     AreSeen s os qs x → d.0 < length os → IfSome t (λ p. IsTrue (has_cpu x.script p)) → os2 ≡ set os d.0 (targeted t d os) →
     AreSeen s os2 qs (with_object d (with_target t (object_in x.objects d)) x)
@@ -184,6 +198,7 @@ target_seen s os qs x d t os2 h l fits e =
     below None f = tt
     below (Some p) f = subst (λ (y : DpcLanes). p.0 < y.script.cpus) (sym h.seen) (ltb-true p.0 x.script.cpus f)
 
+-- contracts see a queue's new idle flag, once the list of queues is written
 pub rest_seen : (s : Script) (os : List ObjectFacts) (qs : List QueueFacts) (x : DpcLanes) (p : CpuNo) (idle : Bool) (qs2 : List QueueFacts) →
     AreSeen s os qs x → p.0 < length qs → qs2 ≡ set qs p.0 (with_idle idle (queue_facts qs p)) →
     AreSeen s os qs2 (with_queue p (set_idle idle (queue_in x.queues p)) x)
@@ -207,10 +222,12 @@ first_stands_here x p part d a h = go (first_dpc part (queue_in x.queues p).pend
         let is : i.dpc ≡ d = cc in
         sym (a.stands d p) ∙ rw is at (first_holds part (queue_in x.queues p).pending i e)
 
+-- an object that stands in a processor's queue is found in that queue
 pub stands_there : (o : Option CpuNo) (p : CpuNo) → Some p ≡ o → is_queue o p ≡ true
 stands_there None p h = cc
 stands_there (Some q) p h = let is : p ≡ q = cc in rw is (eq-eqb q.0 q.0 refl)
 
+-- an object that stands in a processor's queue is in it as the queue's entries say
 pub stands_here : (x : DpcLanes) (d : DpcNo) (p : CpuNo) (o : ObjectFacts) (q : QueueFacts) → Agrees x → Some p ≡ stand_of (object_in x.objects d) →
     o.state ≡ object_in x.objects d → o.dpc ≡ d → q.state ≡ queue_in x.queues p → q.cpu ≡ p → StandsHereOrNowhere q o
 stands_here x d p o q a at os od qs qc =
@@ -221,6 +238,7 @@ stands_here x d p o q a at os od qs qc =
     go None e held = cc
     go (Some y) e held = let is : p ≡ y.queue = cc in (sym is ∙ sym qc, held)
 
+-- removing an object from the processor's queue in which it stands is removing it from where it stands
 pub removed_from_is : (st : Option Standing) (p : CpuNo) (d : DpcNo) (x : DpcLanes) → Some p ≡ option_map (λ y. y.queue) st →
     removed_at p d x ≡ removed_from st d x
 removed_from_is None p d x h = cc
@@ -229,6 +247,7 @@ removed_from_is (Some y) p d x h =
 
 -- ---- the calls
 
+-- an object of the script and one of its processors have places in the two lists
 pub places : (s : Script) (os : List ObjectFacts) (qs : List QueueFacts) (x : DpcLanes) (d : DpcNo) (p : CpuNo) → AreSeen s os qs x →
     IsTrue (has_dpc x.script d) → p.0 < x.script.cpus → ArePlaces os qs d p
 places s os qs x d p h t l =

@@ -21,6 +21,7 @@ use Rattle.nt_states.specs.DpcLanes.{queue_in, start}
 
 -- ---- tables
 
+-- mapping a table gives the table of the mapped function
 map_table_from : {A B : Type 0} (g : A → B) (k n : ℕ) (f : ℕ → A) → map g (table_from k n f) ≡ table_from k n (λ i. g (f i))
 unfolding table_from
 map_table_from g k zero f = refl
@@ -36,6 +37,7 @@ constant n i x =
 
 -- ---- the start
 
+-- new objects and queues are those of the script before any event
 pub new_is_start : (s : Script) → lanes_of s (new_objects s (length s.dpcs)) (new_queues s s.cpus) ≡ start s
 new_is_start s = λ i. record { script = s; objects = objects i; queues = queues i }
   where
@@ -46,12 +48,15 @@ new_is_start s = λ i. record { script = s; objects = objects i; queues = queues
     queues : map (λ (q : QueueFacts). q.state) (new_queues s s.cpus) ≡ table s.cpus (λ p. queue_of s (cpu p) [])
     queues = map_table_from (λ (q : QueueFacts). q.state) 0 s.cpus (λ p. new_queue (cpu p) (length s.dpcs) (depth_limit s))
 
+-- before any event each object is in the start state
 start_objects : (s : Script) (d : DpcNo) → object_in (start s).objects d ≡ start_object
 start_objects s d = constant (length s.dpcs) d.0 start_object
 
+-- before any event each queue is in the start state
 start_queues : (s : Script) (p : CpuNo) → queue_in (start s).queues p ≡ start_queue
 start_queues s p = constant s.cpus p.0 start_queue
 
+-- before any event objects and queues agree
 agree_start : (s : Script) → Agrees (start s)
 agree_start s =
     record {
@@ -62,6 +67,7 @@ agree_start s =
           ∙ ap (λ (o : ObjectState). is_queue (stand_of o) p) (sym (start_objects s d));
     }
 
+-- the new objects and queues of a script are kept
 pub kept_start : (s : Script) → AreKept s (new_objects s (length s.dpcs)) (new_queues s s.cpus)
 kept_start s = record { agree = subst Agrees (sym (new_is_start s)) (agree_start s); object = object; queue = queue }
   where

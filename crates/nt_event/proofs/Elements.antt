@@ -6,15 +6,19 @@ use Rattle.std.specs.List.{Contains}
 use Rattle.std.specs.Option.{option_or}
 use Rattle.std.specs.Prelude.{Bool, List, None, Option, Some, [], cond, false, filter, find, map, refl, reverse, true, ◌∷◌, ◌≡◌, ◌⊎◌}
 
+-- the empty list contains nothing: from an element of it anything follows
 pub contains_none : {X A : Type 0} (x : X) → Contains [] x → A
 contains_none x h = absurd (omega (arith, h.1))
 
+-- a list contains its first element
 pub contains_here : {X : Type 0} (x : X) (xs : List X) → Contains (x ∷ xs) x
 contains_here x xs = Contains-get_or (x ∷ xs) 0 x (omega arith)
 
+-- what a list contains is also in the list with one more element in front
 pub contains_there : {X : Type 0} (y : X) (xs : List X) (x : X) → Contains xs x → Contains (y ∷ xs) x
 contains_there y xs x h = Contains-append_right (y ∷ []) xs x h
 
+-- an element of a list with one more in front is that one or is in the rest
 pub contains_cases : {X : Type 0} (y : X) (xs : List X) (x : X) → Contains (y ∷ xs) x → (y ≡ x) ⊎ Contains xs x
 contains_cases y xs x h =
     elim (Contains-append_cases (y ∷ []) xs x h) [
@@ -40,6 +44,7 @@ kept_contains {X} test (y ∷ xs) x h =
           | inr there ↦ tail there
         ]
 
+-- an element that passes a test is in what a filter by the test keeps
 pub contains_kept : {X : Type 0} (test : X → Bool) (xs : List X) (x : X) → Contains xs x → test x ≡ true → Contains (filter test xs) x
 contains_kept test [] x h t = h
 contains_kept {X} test (y ∷ xs) x h t = go (test y) refl (λ k. contains_kept test xs x k t)
@@ -56,6 +61,7 @@ contains_kept {X} test (y ∷ xs) x h t = go (test y) refl (λ k. contains_kept 
           | inr there ↦ ih there
         ]
 
+-- what the reversed list contains is in the list
 pub reversed_contains : {X : Type 0} (xs : List X) (x : X) → Contains (reverse xs) x → Contains xs x
 reversed_contains [] x h = h
 reversed_contains {X} (y ∷ xs) x h =
@@ -83,6 +89,7 @@ pub or_gives : {X : Type 0} (a b : Option X) (x : X) → option_or a b ≡ Some 
 or_gives None b x h = inr h
 or_gives (Some y) b x h = inl h
 
+-- the image of an element is in the mapped list
 pub contains_mapped : {X Y : Type 0} (f : X → Y) (xs : List X) (x : X) → Contains xs x → Contains (map f xs) (f x)
 contains_mapped f [] x h = contains_none x h
 contains_mapped f (y ∷ xs) x h =
@@ -91,6 +98,7 @@ contains_mapped f (y ∷ xs) x h =
       | inr there ↦ contains_there (f y) (map f xs) (f x) (contains_mapped f xs x there)
     ]
 
+-- each element of a mapped list is the image of an element of the list
 pub mapped_contains : {X Y : Type 0} (f : X → Y) (xs : List X) (z : Y) → Contains (map f xs) z → (x : X) × Contains xs x × (f x ≡ z)
 mapped_contains f [] z h = contains_none z h
 mapped_contains f (y ∷ xs) z h =

@@ -22,23 +22,27 @@ use Rattle.nt_event.proofs.Tables.{get_or-table, table-same}
 
 -- ---- lanes
 
+-- after one more event the DPC objects are what the event makes of those before
 pub object_moves : (s : Script) (e : Event) (past : List Event) → objects_at s (e ∷ past)
     ≡ table (length s.dpcs) (λ d. object_after (dpc d) (length past) e.cpu e.what (object_in (objects_at s past) (dpc d)))
 object_moves s e past =
     table-same _ _ _ (λ d h. ap (object_after (dpc d) (length past) e.cpu e.what) (sym (get_or-table _ d (λ d. object_of (dpc d) past) start_object h)))
 
+-- after one more event the DPC queues of all processors are what the event makes of those before
 pub queue_moves : (s : Script) (e : Event) (past : List Event) → table s.cpus (λ p. queue_of s (cpu p) (e ∷ past))
     ≡ table s.cpus (λ p. queue_after s (cpu p) (length past) e.cpu e.what (objects_at s past) (queue_at (lanes_at s past) (cpu p)))
 queue_moves s e past =
     table-same _ _ _ (λ p h. ap (queue_after s (cpu p) (length past) e.cpu e.what (objects_at s past))
     (sym (get_or-table _ p (λ p. queue_of s (cpu p) past) start_queue h)))
 
+-- after one more event the facts of all threads are what the event makes of those before
 pub thread_moves : (s : Script) (e : Event) (past : List Event) → table (length s.threads) (λ t. facts s (thread t) (e ∷ past))
     ≡ table (length s.threads) (λ t. facts_after s (thread t) (length past) (stand_at s e.cpu past) e (facts_at (lanes_at s past) (thread t)))
 thread_moves s e past =
     table-same _ _ _ (λ t h. ap (facts_after s (thread t) (length past) (stand_at s e.cpu past) e)
     (sym (get_or-table _ t (λ t. facts s (thread t) past) start_facts h)))
 
+-- after one more event the timers and the time are what the event makes of those before
 pub timers_move : (s : Script) (e : Event) (past : List Event) → timers_at s (e ∷ past)
     ≡ timers_after s (length past) (stand_at s e.cpu past) e (timers_at s past)
 timers_move s e past =
@@ -52,11 +56,13 @@ timers_move s e past =
     (sym (get_or-table _ t (λ t. delay_setting s (thread t) past) None h))) in
     λ i. record { now = time_after e.what (time past); timers = t i; delays = d i }
 
+-- after one more event the spin locks are what the event makes of those before
 pub lock_moves : (s : Script) (e : Event) (past : List Event) → table s.locks (λ k. lock_of s (lock k) (e ∷ past))
     ≡ table s.locks (λ k. lock_after s (lock k) e (lock_at (lanes_at s past) (lock k)))
 lock_moves s e past =
     table-same _ _ _ (λ k h. ap (lock_after s (lock k) e) (sym (get_or-table _ k (λ k. lock_of s (lock k) past) start_lock h)))
 
+-- after one more event the states of all lanes are what the event makes of those before
 pub lanes_move : (s : Script) (e : Event) (past : List Event) → lanes_at s (e ∷ past) ≡ lanes_after s (length past) (stand_at s e.cpu past) e (lanes_at s past)
 lanes_move s e past =
     λ i. record {
@@ -69,6 +75,7 @@ lanes_move s e past =
 
 -- ---- a processor
 
+-- an event of a processor moves this processor's frames by the rule for one event
 pub frames_move : (s : Script) (p : CpuNo) (e : Event) (past : List Event) → is_of e p ≡ true → frames_of s p (e ∷ past)
     ≡ frames_after s (length past) (due_of e.what (time past)) e (frames_of s p past)
 frames_move s p e past h =
@@ -86,12 +93,15 @@ frames_move s p e past h =
     t = simp h (table-same _ _ _ (λ t l. ap (thread_if (is_by e (thread t)) s (length past) (due_of e.what (time past)) e.what)
         (sym (get_or-table _ t (λ t. thread_frames s p (thread t) past) [] l))))
 
+-- an event of another processor leaves a processor's frames as they were
 pub frames_stay : (s : Script) (p : CpuNo) (e : Event) (past : List Event) → is_of e p ≡ false → frames_of s p (e ∷ past) ≡ frames_of s p past
 frames_stay s p e past h = simp h
 
+-- an event of another processor leaves all that a processor keeps of its own as it was
 pub own_stays : (s : Script) (p : CpuNo) (e : Event) (past : List Event) → is_of e p ≡ false → own_of s p (e ∷ past) ≡ own_of s p past
 own_stays s p e past h = simp h
 
+-- an event of a processor moves what this processor keeps of its own by the rule for one event
 pub own_moves_here : (s : Script) (p : CpuNo) (e : Event) (past : List Event) → is_of e p ≡ true → own_of s p (e ∷ past)
     ≡ own_after_event s (length past) (due_of e.what (time past)) e (λ c. asks s p c e past) (λ c. told s p c e past) (own_of s p past)
 own_moves_here s p e past h = λ i. record {

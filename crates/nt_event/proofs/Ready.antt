@@ -21,6 +21,7 @@ abbrev AllReady : Script → CpuNo → Lanes → List ThreadNo → Type 0
 AllReady s p l [] = Unit {0}
 AllReady s p l (t ∷ ts) = (may_take s p t l ≡ true) × AllReady s p l ts
 
+-- a processor may take up a thread that is declared on it and is ready
 takes_ready : (s : Script) (p : CpuNo) (l : Lanes) (n : ℕ) (x : ThreadDecl) → slice_get s.threads n ≡ Some x →
     ((x.cpu.0 == p.0) && is_ready (facts_at l (thread n))) ≡ true → may_take s p (thread n) l ≡ true
 takes_ready s p l n x e h =
@@ -29,6 +30,7 @@ takes_ready s p l n x e h =
     let own : cpu_of s (thread n) ≡ x.cpu = ap (λ (o : Option ThreadDecl). option_map_or (λ (y : ThreadDecl). y.cpu) o (cpu 0)) e in
     rw (within, own, k.0, k.1) refl
 
+-- a processor may take up each thread of its ready list, from any thread number on
 ready_all : (s : Script) (p : CpuNo) (l : Lanes) (n : ℕ) (xs : List ThreadDecl) → ((i : ℕ) → slice_get s.threads (n + i) ≡ slice_get xs i) →
     AllReady s p l (ready_from p n xs l)
 ready_all s p l n [] h = tt
@@ -46,6 +48,7 @@ ready_all s p l n (x ∷ xs) h =
     go true e more = (takes_ready s p l n x here e, more)
     go false e more = more
 
+-- a thread that a search finds among threads that may be taken up may be taken up
 find_ready : (s : Script) (p : CpuNo) (l : Lanes) (test : ThreadNo → Bool) (ts : List ThreadNo) → AllReady s p l ts →
     Holds (λ t. may_take s p t l ≡ true) (find test ts)
 find_ready s p l test [] h = tt
@@ -55,6 +58,7 @@ find_ready s p l test (t ∷ ts) h = go (test t) (find_ready s p l test ts h.1)
     go true k = h.0
     go false k = k
 
+-- the first of a list of threads that may all be taken up may be taken up
 head_ready : (s : Script) (p : CpuNo) (l : Lanes) (ts : List ThreadNo) → AllReady s p l ts → Holds (λ t. may_take s p t l ≡ true) (head_of ts)
 head_ready s p l [] h = tt
 head_ready s p l (t ∷ ts) h = h.0

@@ -22,6 +22,7 @@ read_map f (x ∷ xs) (suc i) d = read_map f xs i d
 
 -- ---- tables in which one place changes
 
+-- a function with the new value at one place and the list's elements at the others gives the written list
 set_reads : {A : Type 0} (xs : List A) (t i : ℕ) (v d : A) (f : ℕ → A) → i < length xs → (eqb t i ≡ true → f i ≡ v) → (eqb t i ≡ false → f i ≡ get_or xs i d) →
     (b : Bool) → eqb t i ≡ b →
     f i ≡ get_or (set xs t v) i d

@@ -34,15 +34,18 @@ use Rattle.nt_expect.proofs.Steps.{made, ok, through}
 abbrev Fronts : {C : Type 0} → (Row → Result C ScriptKind) → ℕ → Row → C → Type 0
 Fronts read n args c = (read (take n args) ≡ Ok c) × (length (take n args) ≡ n)
 
+-- what is read from no field is read from the first none of the fields alone
 front0 : {C : Type 0} (x c : C) (args : Row) → ok x ≡ Ok c → Fronts (λ args. ok x) 0 args c
 front0 x c [] e = (e, refl)
 front0 x c (a ∷ args) e = (e, refl)
 
+-- what is read from one field is read from the first field alone, and it is there
 front1 : {A C : Type 0} (f : List ℕ → Result A ScriptKind) (make : A → C) (args : Row) (c : C) → read1 f make args ≡ Ok c → Fronts (read1 f make) 1 args c
 front1 f make [] c e = absurd cc
 front1 f make (a ∷ []) c e = (e, refl)
 front1 f make (a ∷ b ∷ args) c e = (e, refl)
 
+-- what is read from two fields is read from the first two alone, and they are there
 front2 : {A B C : Type 0} (f : List ℕ → Result A ScriptKind) (g : List ℕ → Result B ScriptKind) (make : A → B → C) (args : Row) (c : C) →
     read2 f g make args ≡ Ok c → Fronts (read2 f g make) 2 args c
 front2 f g make [] c e = absurd cc
@@ -51,6 +54,7 @@ front2 {A = A} {B = B} {C = C} f g make (a ∷ []) c e =
 front2 f g make (a ∷ b ∷ []) c e = (e, refl)
 front2 f g make (a ∷ b ∷ d ∷ args) c e = (e, refl)
 
+-- what is read from three fields is read from the first three alone, and they are there
 front3 : {A B D C : Type 0} (f : List ℕ → Result A ScriptKind) (g : List ℕ → Result B ScriptKind) (h : List ℕ → Result D ScriptKind) (make : A → B → D → C)
     (args : Row) (c : C) → read3 f g h make args ≡ Ok c → Fronts (read3 f g h make) 3 args c
 front3 f g h make [] c e = absurd cc
@@ -64,6 +68,7 @@ front3 {C = C} f g h make (a ∷ b ∷ []) c e =
 front3 f g h make (a ∷ b ∷ d ∷ []) c e = (e, refl)
 front3 f g h make (a ∷ b ∷ d ∷ i ∷ args) c e = (e, refl)
 
+-- a command is read from as many first fields as its verb has, and they are there
 command_front : (names : NameLists) (cpus : ℕ) (v : Verb) (args : Row) (c : Command) → command_of names cpus v args ≡ Ok c →
     Fronts (command_of names cpus v) (verb_arity v) args c
 command_front names cpus verb.Raise args c e = front1 read_level cmd.Raise args c e
@@ -95,12 +100,14 @@ command_front names cpus verb.Note args c e = front1 (read_number 4294967295) cm
 
 -- ---- what stands behind a command's fields
 
+-- a reader of one field gives the same if more fields stand after that one
 more1 : {A C : Type 0} (f : List ℕ → Result A ScriptKind) (make : A → C) (args more : Row) → length args ≡ 1 → read1 f make (args ++ more)
     ≡ read1 f make args
 more1 f make [] more e = absurd (omega (arith, e))
 more1 f make (a ∷ []) more e = refl
 more1 f make (a ∷ b ∷ args) more e = absurd (omega (arith, e))
 
+-- a reader of two fields gives the same if more fields stand after the two
 more2 : {A B C : Type 0} (f : List ℕ → Result A ScriptKind) (g : List ℕ → Result B ScriptKind) (make : A → B → C) (args more : Row) → length args ≡ 2 →
     read2 f g make (args ++ more) ≡ read2 f g make args
 more2 f g make [] more e = absurd (omega (arith, e))
@@ -108,6 +115,7 @@ more2 f g make (a ∷ []) more e = absurd (omega (arith, e))
 more2 f g make (a ∷ b ∷ []) more e = refl
 more2 f g make (a ∷ b ∷ c ∷ args) more e = absurd (omega (arith, e))
 
+-- a reader of three fields gives the same if more fields stand after the three
 more3 : {A B D C : Type 0} (f : List ℕ → Result A ScriptKind) (g : List ℕ → Result B ScriptKind) (h : List ℕ → Result D ScriptKind) (make : A → B → D → C)
     (args more : Row) → length args ≡ 3 → read3 f g h make (args ++ more) ≡ read3 f g h make args
 more3 f g h make [] more e = absurd (omega (arith, e))
@@ -116,6 +124,7 @@ more3 f g h make (a ∷ b ∷ []) more e = absurd (omega (arith, e))
 more3 f g h make (a ∷ b ∷ c ∷ []) more e = refl
 more3 f g h make (a ∷ b ∷ c ∷ d ∷ args) more e = absurd (omega (arith, e))
 
+-- a command with all fields of its verb is read the same if more fields stand after them
 command_more : (names : NameLists) (cpus : ℕ) (v : Verb) (args more : Row) → length args ≡ verb_arity v → command_of names cpus v (args ++ more)
     ≡ command_of names cpus v args
 command_more names cpus verb.Raise args more e = more1 read_level _ args more e
@@ -145,6 +154,7 @@ command_more names cpus verb.Acquire args more e = more1 (read_lock names) _ arg
 command_more names cpus verb.Unlock args more e = more1 (read_lock names) _ args more e
 command_more names cpus verb.Note args more e = more1 (read_number 4294967295) _ args more e
 
+-- after the fields of a row stand just those that were put after it
 behind_more : (n : ℕ) (args more : Row) → length args ≡ n → behind n (args ++ more) ≡ more
 behind_more zero [] more e = refl
 behind_more zero (a ∷ args) more e = absurd (omega (arith, e))
@@ -153,13 +163,16 @@ behind_more (suc n) (a ∷ args) more e = behind_more n args more (omega (arith,
 
 -- ---- verbs
 
+-- a keyword that is taken as a verb is the keyword of that verb
 verb_ok : (o : Option Keyword) (v : Verb) → verb_of o ≡ Ok v → o ≡ Some (keyword.Call v)
 verb_ok (Some (keyword.Call u)) v e = let same : u ≡ v = cc in ap (λ (u : Verb). Some (keyword.Call u)) same
 verb_ok _ v e = absurd cc
 
+-- a field that is read as a verb is the verb's text
 verb_is : (version : ℕ) (f : List ℕ) (v : Verb) → read_verb version f ≡ Ok v → f ≡ text_of (keyword.Call v)
 verb_is version f v e = (keyword_is version f (keyword.Call v) (verb_ok (keyword_of version f) v e)).0
 
+-- a verb's text is read as the verb in each version that has it
 verb_again : (version : ℕ) (v : Verb) → since (keyword.Call v) ≤ version → read_verb version (text_of (keyword.Call v)) ≡ Ok v
 verb_again version v le = rw (keyword_again version (keyword.Call v) le) refl
 
@@ -169,11 +182,13 @@ verb_again version v le = rw (keyword_again version (keyword.Call v) le) refl
 abbrev pub CommandIsPlain : Input → Command → Type 0
 CommandIsPlain input c = (command_fits input.script c ≡ true) × HasRange c
 
+-- a row with enough fields is its first fields and those after them
 parts_behind : (n : ℕ) (args : Row) → length (take n args) ≡ n → args ≡ take n args ++ behind n args
 parts_behind zero args e = refl
 parts_behind (suc n) [] e = absurd (omega (arith, e))
 parts_behind (suc n) (a ∷ args) e = ap (λ (r : Row). a ∷ r) (parts_behind n args (omega (arith, e)))
 
+-- fields that are read as a command are its row and what is left, and it is one that a text may have
 command_shown : (input : Input) → Known input → (row : Row) (y : Command × Row) → command input row ≡ Ok y →
     Shown (command_row input.names) (CommandIsPlain input) row y
 command_shown input k [] y e = absurd cc
@@ -202,6 +217,7 @@ command_shown input k (f ∷ args) y e =
           command_to input.script names k.counts c t.fits,
         )
 
+-- the row of a command that a text may have, with more after it, is read as that command
 command_read : (input : Input) → Known input → (c : Command) (more : Row) → CommandIsPlain input c →
     command input (command_row input.names c ++ more) ≡ Ok (c, more)
 command_read input k c more h =
@@ -220,11 +236,13 @@ command_read input k c more h =
         behind (verb_arity v) args ≡ more → command input (text_of (keyword.Call v) ∷ args) ≡ Ok (c, more)
     go v args e f g = rw (e, f, g) refl
 
+-- all members of a row of fields pass the test of a field
 fields_of : (row : Row) → IsRow row → list_all is_field row ≡ true
 fields_of [] h = absurd h
 fields_of (f ∷ []) h = and_from (is_field f) true h.0 refl
 fields_of (f ∷ g ∷ fs) h = and_from (is_field f) (list_all is_field (g ∷ fs)) h.0 (fields_of (g ∷ fs) h.1)
 
+-- a command is read from just the fields of its row, and its row is read as the command
 pub commands : (input : Input) → Known input → Parses (command input) (command_row input.names) (CommandIsPlain input)
 commands input k = record {
   takes = record { from = command_shown input k };

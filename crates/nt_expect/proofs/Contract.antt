@@ -29,11 +29,13 @@ text_is_read bytes input n es h =
     let lines_are : lines bytes ≡ map line_of rows = ap lines h.text ∙ lines_again rows (rows_clean input h.sound es h.plain) in
     ap (walk input start n) lines_are ∙ walk_again n input es h.sound h.plain
 
+-- what a call that does what reading says finds is a list of expectations that the bytes are the text of
 pub is_found : (bytes : List ℕ) (input : Input) (n : ℕ) (r : Result (List Expectation) ExpectRefusal) → IsSound input → GivesRead r (reading input n bytes) →
     IfOk r (IsTextOf bytes input)
 is_found bytes input n (Ok es) sound h = list_is_text bytes input n es sound h
 is_found bytes input n (Err e) sound h = tt
 
+-- expectations that a text may have fit the script
 plain_fits : (input : Input) (es : List Expectation) → AllByRecursion (ExpectationIsPlain input) es → expectations_fit input.script es ≡ true
 plain_fits input [] h = refl
 plain_fits input (e ∷ es) h = and_from (expectation_fits input.script e) (expectations_fit input.script es) h.0.0 (plain_fits input es h.1)
@@ -44,6 +46,7 @@ pub is_fit : (bytes : List ℕ) (input : Input) (n : ℕ) (r : Result (List Expe
 is_fit bytes input n (Ok es) sound h = plain_fits input es (list_is_text bytes input n es sound h).plain.each
 is_fit bytes input n (Err e) sound h = tt
 
+-- equal successful results hold the same expectations
 ok_one : (es fs : List Expectation) → ◌≡◌ {A = Result (List Expectation) (ℕ × ExpectKind)} (Ok es) (Ok fs) → es ≡ fs
 ok_one es fs e = cc
 

@@ -57,6 +57,7 @@ ActivityIsPlain input b = (activity_fits input.script b ≡ true) × ActivityHas
 abbrev ActivityShown : Input → Row → Activity × Row → Type 0
 ActivityShown input row y = Shown (activity_row input.names) (ActivityIsPlain input) row y
 
+-- a word and fields that are read as an activity are those of that activity and what is left
 activity_of_shown : (input : Input) → Known input → (w : List ℕ) (row : Row) (y : Activity × Row) → activity_of input.names w row ≡ Ok y →
     ActivityShown input (w ∷ row) y
 activity_of_shown input k w row y e =
@@ -79,6 +80,7 @@ activity_of_shown input k w row y e =
         s e
     go false false false false p q r s e = absurd cc
 
+-- the fields of an activity of the script, with more after them, are read as that activity
 activity_again : (input : Input) → Known input → (b : Activity) (more : Row) → ActivityIsPlain input b →
     read_activity input.names (activity_row input.names b ++ more) ≡ Ok (b, more)
 activity_again input k (act.Int l) more h = mapped_again (one isr_level_field) (λ (l : ℕ). act.Int l) l more (h.1, h.0)
@@ -86,12 +88,14 @@ activity_again input k (act.Dpc d) more h = mapped_again (one (dpc_named input k
 activity_again input k (act.Apc a) more h = mapped_again (one (apc_named input k)) (λ (x : ApcNo). act.Apc x) a more h.0
 activity_again input k (act.Thread t) more h = mapped_again (one (thread_named input k)) (λ (x : ThreadNo). act.Thread x) t more h.0
 
+-- the fields of an activity of the script are all fields of a text
 activity_clean : (input : Input) → Known input → (b : Activity) → ActivityIsPlain input b → list_all is_field (activity_row input.names b) ≡ true
 activity_clean input k (act.Int l) h = (one isr_level_field).clean l (h.1, h.0)
 activity_clean input k (act.Dpc d) h = (one (dpc_named input k)).clean d h.0
 activity_clean input k (act.Apc a) h = (one (apc_named input k)).clean a h.0
 activity_clean input k (act.Thread t) h = (one (thread_named input k)).clean t h.0
 
+-- activities are read from their fields, and what is read as one is written so
 activities : (input : Input) → Known input → Parses (read_activity input.names) (activity_row input.names) (ActivityIsPlain input)
 activities input k = record {
   takes = record { from = worded (activity_of input.names) (ActivityShown input) (activity_of_shown input k) };
@@ -104,10 +108,12 @@ activities input k = record {
 abbrev ReplyShown : Row → NamedReply × Row → Type 0
 ReplyShown row y = Shown reply_row (λ r. Unit {0}) row y
 
+-- a status that is read from hexadecimal digits is written in these
 status_takes : TakesShown (one_field read_hexadecimal) (λ n. digits 16 false n ∷ []) (λ n. Unit {0})
 status_takes = one_takes read_hexadecimal (digits 16 false) (λ n. Unit {0})
     (λ f n e. (hexadecimal_shown f n (or_error_ok BadNumber (hexadecimal_of f) n e), tt))
 
+-- a word and fields that are read as a reply are those of that reply and what is left
 reply_of_shown : (version : ℕ) (w : List ℕ) (row : Row) (y : NamedReply × Row) → reply_of version w row ≡ Ok y → ReplyShown (w ∷ row) y
 reply_of_shown version w row y e =
     go (bytes_eq w (codes "yes")) (bytes_eq w (codes "no")) (bytes_eq w (codes "done")) (bytes_eq w (codes "blocked")) (bytes_eq w (codes "status"))
@@ -130,12 +136,14 @@ reply_of_shown version w row y e =
         word_alone named.Spin ReplyShown (codes "spin") w row y (refl, tt) (and_parts (bytes_eq w (codes "spin")) (version == 2) ht).0 e
     go false false false false false false false ha hb hc hd hs hr ht e = absurd cc
 
+-- what is read as a reply, in any version, is written so
 reply_takes : (version : ℕ) → TakesShown (read_reply version) reply_row (λ r. Unit {0})
 reply_takes version = record { from = worded (reply_of version) ReplyShown (reply_of_shown version) }
 
 abbrev replied_row : NamedReply → Row
 replied_row y = codes "->" ∷ reply_row y
 
+-- a reply that is read after a command's arrow is written so, and is one that the command may give
 replied_takes : (version : ℕ) (c : Command) (row : Row) (y : NamedReply × Row) → replied version c row ≡ Ok y →
     Shown replied_row (λ y. may_reply c y ≡ true) row y
 replied_takes version c row y e =
@@ -150,10 +158,12 @@ replied_takes version c row y e =
         made (λ (y : NamedReply × Row). Shown replied_row (λ y. may_reply c y ≡ true) row y) x y e
         (((behind_takes (reply_takes version) (codes "->")).from row x is).0, may)
 
+-- a status that the command may end with is read from its hexadecimal digits
 status_again : (code : ℕ) (c : Command) → may_end code (replies_of c) ≡ true → read_hexadecimal (digits 16 false code) ≡ Ok code
 unfolding digits
 status_again code c h = each_reply_status (λ (n : ℕ). read_hexadecimal (digits 16 false n) ≡ Ok n) refl refl refl refl code (replies_of c) h
 
+-- a status that the command may end with is written as a field
 status_clean : (code : ℕ) (c : Command) → may_end code (replies_of c) ≡ true → is_field (digits 16 false code) ≡ true
 unfolding digits
 status_clean code c h = each_reply_status (λ (n : ℕ). is_field (digits 16 false n) ≡ true) refl refl refl refl code (replies_of c) h
@@ -165,6 +175,7 @@ version_2 input k l h =
     let most = k.fit.version.1 in
     eq-eqb input.version 2 (omega (arith, least, most))
 
+-- a command that may be answered with a spin is of version 2
 spin_version : (input : Input) → Known input → (c : Command) → CommandIsPlain input c → may_reply c named.Spin ≡ true → (input.version == 2) ≡ true
 spin_version input k (cmd.Acquire l) h may = version_2 input k l h.0
 spin_version input k (cmd.Raise level) h may = absurd cc
@@ -193,6 +204,7 @@ spin_version input k cmd.Yield h may = absurd cc
 spin_version input k (cmd.Unlock l) h may = absurd cc
 spin_version input k (cmd.Note n) h may = absurd cc
 
+-- the arrow and a reply that the command may give are read as that reply
 replied_again : (input : Input) → Known input → (c : Command) → CommandIsPlain input c → (y : NamedReply) (more : Row) → may_reply c y ≡ true →
     replied input.version c (replied_row y ++ more) ≡ Ok (y, more)
 replied_again input k c h named.Yes more may = rw may refl
@@ -203,6 +215,7 @@ replied_again input k c h (named.Status code) more may = rw (status_again code c
 replied_again input k c h named.Refused more may = rw may refl
 replied_again input k c h named.Spin more may = rw (spin_version input k c h may, may) refl
 
+-- a reply that the command may give is written in fields
 reply_clean : (c : Command) (y : NamedReply) → may_reply c y ≡ true → list_all is_field (reply_row y) ≡ true
 reply_clean c named.Yes may = refl
 reply_clean c named.No may = refl
@@ -220,6 +233,7 @@ WatchedIsPlain input e = (watched_fits input.script e ≡ true) × WatchedHasRan
 abbrev WatchedShown : Input → Row → Watched × Row → Type 0
 WatchedShown input row y = Shown (watched_row input.names) (WatchedIsPlain input) row y
 
+-- fields that are read as a call are its command, the arrow and its reply, and what is left
 call_shown : (input : Input) → Known input → (row : Row) (y : Watched × Row) → read_call input row ≡ Ok y → WatchedShown input (codes "call" ∷ row) y
 call_shown input k row y e =
     let P = WatchedShown input (codes "call" ∷ row) in
@@ -234,6 +248,7 @@ call_shown input k row y e =
       (and_from (command_fits input.script c.0) (may_reply c.0 a.0) s.1.0 t.1, s.1.1),
     )))
 
+-- a word and fields that are read as a watched event are those of that event and what is left
 watched_of_shown : (input : Input) → Known input → (w : List ℕ) (row : Row) (y : Watched × Row) → watched_of input w row ≡ Ok y → WatchedShown input (w ∷ row) y
 watched_of_shown input k w row y e =
     go (bytes_eq w (codes "note")) (bytes_eq w (codes "refused")) (bytes_eq w (codes "begin")) (bytes_eq w (codes "expire")) (bytes_eq w (codes "gone"))
@@ -261,6 +276,7 @@ watched_of_shown input k w row y e =
         subst (λ (v : List ℕ). WatchedShown input (v ∷ row) y) (sym (same_text w (codes "call") hr)) (call_shown input k row y e)
     go false false false false false false ha hb hc hd hg hr e = absurd cc
 
+-- the fields of a call's command and reply, with more after them, are read as that call
 call_again : (input : Input) → Known input → (c : Command) (a : NamedReply) (more : Row) → WatchedIsPlain input (Call c a) →
     read_call input ((command_row input.names c ++ replied_row a) ++ more) ≡ Ok (Call c a, more)
 call_again input k c a more h =
@@ -272,6 +288,7 @@ call_again input k c a more h =
     ∙ bind_is (replied input.version c (replied_row a ++ more)) (λ (a : NamedReply × Row). ok (Call c a.0, a.1)) (a, more)
     (replied_again input k c (p.0, h.1) a more p.1)
 
+-- the fields of a watched event that a text may have, with more after them, are read as that event
 watched_again : (input : Input) → Known input → (e : Watched) (more : Row) → WatchedIsPlain input e → read_watched input (watched_row input.names e ++ more)
     ≡ Ok (e, more)
 watched_again input k (Note n) more h = mapped_again (one note_field) (λ (n : ℕ). Note n) n more h.1
@@ -281,9 +298,11 @@ watched_again input k (Expire t) more h = mapped_again (behind (one (timer_named
 watched_again input k (Gone t) more h = mapped_again (one (thread_named input k)) (λ (x : ThreadNo). Gone x) t more h.0
 watched_again input k (Call c a) more h = call_again input k c a more h
 
+-- two rows of fields, one after the other, are a row of fields
 both_clean : (a b : Row) → list_all is_field a ≡ true → list_all is_field b ≡ true → list_all is_field (a ++ b) ≡ true
 both_clean a b h g = list_all-append is_field a b ∙ and_from (list_all is_field a) (list_all is_field b) h g
 
+-- a watched event that a text may have is written in fields
 watched_clean : (input : Input) → Known input → (e : Watched) → WatchedIsPlain input e → list_all is_field (watched_row input.names e) ≡ true
 watched_clean input k (Note n) h = (one note_field).clean n h.1
 watched_clean input k Refused h = refl
@@ -294,6 +313,7 @@ watched_clean input k (Call c a) h =
     let p = and_parts (command_fits input.script c) (may_reply c a) h.0 in
     both_clean (command_row input.names c) (replied_row a) ((commands input k).clean c (p.0, h.1)) (reply_clean c a p.1)
 
+-- watched events are read from their fields, and what is read as one is written so
 watcheds : (input : Input) → Known input → Parses (read_watched input) (watched_row input.names) (WatchedIsPlain input)
 watcheds input k = record {
   takes = record { from = worded (watched_of input) (WatchedShown input) (watched_of_shown input k) };
@@ -312,6 +332,7 @@ record Expects (input : Input) (always : Bool) (row : Row) (y : Expectation × R
 abbrev Behind : Input → Watched → Row → Expectation × Row → Type 0
 Behind input x r y = Expects input false (watched_row input.names x ++ r) y
 
+-- `never`, an event, a word such as `twice` or `after`, and its fields are read as that expectation
 never_with_word_shown : (input : Input) → Known input → (x : Watched) → WatchedIsPlain input x → (w : List ℕ) (row : Row) (y : Expectation × Row) →
     never_with_word input x w row ≡ Ok y → Expects input false (watched_row input.names x ++ w ∷ row) y
 never_with_word_shown input k x h w row y e =
@@ -359,12 +380,14 @@ never_with_word_shown input k x h w row y e =
         }) w row y hg e
     go false false false false false ha hb hc hd hg e = absurd cc
 
+-- what is read after `never` and an event, be it a word or nothing, is the expectation written so
 never_behind_shown : (input : Input) → Known input → (x : Watched) → WatchedIsPlain input x → (row : Row) (y : Expectation × Row) →
     never_behind input x row ≡ Ok y → Expects input false (watched_row input.names x ++ row) y
 never_behind_shown input k x h [] y e =
     made (Expects input false (watched_row input.names x ++ [])) (Never x, []) y e (record { row_is = refl; plain = h; quantified = refl })
 never_behind_shown input k x h (w ∷ row) y e = never_with_word_shown input k x h w row y e
 
+-- what is read after `never` as an event and more is the expectation written so
 never_event_shown : (input : Input) → Known input → (w : List ℕ) (row : Row) (y : Expectation × Row) → never_event input w row ≡ Ok y →
     Expects input false (w ∷ row) y
 never_event_shown input k w row y e =
@@ -373,6 +396,7 @@ never_event_shown input k w row y e =
     let s = watched_of_shown input k w row x is in
     subst (λ (r : Row). Expects input false r y) (sym s.0) (never_behind_shown input k x.0 s.1 x.1 y then))
 
+-- what is read after `never` as two activities at the same time is the expectation written so
 never_with_shown : (input : Input) → Known input → (w : List ℕ) (row : Row) (y : Expectation × Row) → never_with input.names w row ≡ Ok y →
     Expects input false (w ∷ row) y
 never_with_shown input k w row y e =
@@ -393,6 +417,7 @@ never_with_shown input k w row y e =
 abbrev Waits : Input → Row → Expectation × Row → Type 0
 Waits input r y = Expects input false (codes "waits" ∷ r) y
 
+-- what is read after `never waits` and its word is that of the DPC or the APC which never waits
 waits_of_shown : (input : Input) → Known input → (w : List ℕ) (row : Row) (y : Expectation × Row) → waits_of input.names w row ≡ Ok y →
     Expects input false (codes "waits" ∷ w ∷ row) y
 waits_of_shown input k w row y e = go (bytes_eq w (codes "dpc")) (bytes_eq w (codes "apc")) refl refl e
@@ -409,10 +434,12 @@ waits_of_shown input k w row y e = go (bytes_eq w (codes "dpc")) (bytes_eq w (co
         (λ x more h. record { row_is = refl; plain = (h, tt); quantified = refl }) w row y hb e
     go false false ha hb e = absurd cc
 
+-- what is read after `never waits` is the expectation written so
 waits_shown : (input : Input) → Known input → (row : Row) (y : Expectation × Row) → read_waits input.names row ≡ Ok y →
     Expects input false (codes "waits" ∷ row) y
 waits_shown input k = worded (waits_of input.names) (λ row y. Expects input false (codes "waits" ∷ row) y) (waits_of_shown input k)
 
+-- what is read after `never`, from its first word on, is the expectation written so
 never_of_shown : (input : Input) → Known input → (w : List ℕ) (row : Row) (y : Expectation × Row) → never_of input w row ≡ Ok y →
     Expects input false (w ∷ row) y
 never_of_shown input k w row y e =
@@ -435,6 +462,7 @@ never_of_shown input k w row y e =
     go false false false true ha hb hc e = never_with_shown input k w row y e
     go false false false false ha hb hc e = never_event_shown input k w row y e
 
+-- what is read after `always`, from its first word on, is the expectation written so
 always_of_shown : (input : Input) → Known input → (w : List ℕ) (row : Row) (y : Expectation × Row) → always_of input w row ≡ Ok y →
     Expects input true (w ∷ row) y
 always_of_shown input k w row y e = go (bytes_eq w (codes "ends")) refl e
@@ -452,6 +480,7 @@ always_of_shown input k w row y e = go (bytes_eq w (codes "ends")) refl e
 abbrev pub ExpectationShown : Input → Row → Expectation × Row → Type 0
 ExpectationShown input row y = Shown (expectation_row input.names) (ExpectationIsPlain input) row y
 
+-- an expectation read after its quantifier is written with that quantifier in front
 quantified : (input : Input) (always : Bool) (row : Row) (y : Expectation × Row) → Expects input always row y →
     ExpectationShown input (quantifier always ∷ row) y
 quantified input always row y h =
@@ -486,6 +515,7 @@ never_reads input (Expire t) more = refl
 never_reads input (Gone t) more = refl
 never_reads input (Call c a) more = refl
 
+-- after `always`, the fields of a watched event are read as an expectation of that event
 always_reads : (input : Input) (x : Watched) →
     expectation_of input (codes "always") (watched_row input.names x)
     ≡ (read_watched input (watched_row input.names x) >>= λ (y : Watched × Row). ok (Always y.0, y.1))
@@ -496,6 +526,7 @@ always_reads input (Expire t) = refl
 always_reads input (Gone t) = refl
 always_reads input (Call c a) = refl
 
+-- after `never`, the fields of an activity are read as it, then `with`, then another activity
 with_reads : (input : Input) (b : Activity) (more : Row) →
     expectation_of input (codes "never") (activity_row input.names b ++ more)
     ≡ (read_activity input.names (activity_row input.names b ++ more) >>=
@@ -506,6 +537,7 @@ with_reads input (act.Dpc d) more = refl
 with_reads input (act.Apc a) more = refl
 with_reads input (act.Thread t) more = refl
 
+-- after `never`, the fields of a watched event are read as it, and then what stands after it
 event_behind : (input : Input) → Known input → (x : Watched) → WatchedIsPlain input x → (more : Row) →
     expectation_of input (codes "never") (watched_row input.names x ++ more) ≡ never_behind input x more
 event_behind input k x h more =
@@ -513,6 +545,7 @@ event_behind input k x h more =
     ∙ bind_is (read_watched input (watched_row input.names x ++ more)) (λ (y : Watched × Row). never_behind input y.0 y.1) (x, more)
     ((watcheds input k).again x more h)
 
+-- the fields of an expectation behind its first word are read as that expectation, and none is left
 pub expectation_again : (input : Input) → Known input → (e : Expectation) → ExpectationIsPlain input e →
     expectation_of input (quantifier (is_always e)) (expected_row input.names e) ≡ Ok (e, [])
 expectation_again input k (Never x) h =
@@ -548,6 +581,7 @@ expectation_again input k AlwaysEnds h = refl
 
 -- ---- fields that make a row
 
+-- an expectation that a text may have is written, after its quantifier, in fields
 expected_clean : (input : Input) → Known input → (e : Expectation) → ExpectationIsPlain input e → list_all is_field (expected_row input.names e) ≡ true
 expected_clean input k (Never x) h = watched_clean input k x h
 expected_clean input k (NeverAfter x f) h =
@@ -575,13 +609,16 @@ expected_clean input k (NeverSpins l) h = (one (lock_named input k)).clean l h.0
 expected_clean input k (Always x) h = watched_clean input k x h
 expected_clean input k AlwaysEnds h = refl
 
+-- a field in front of fields makes a row of fields
 row_from : (f : List ℕ) (fs : Row) → is_field f ≡ true → list_all is_field fs ≡ true → IsRow (f ∷ fs)
 row_from f [] h k = (h, tt)
 row_from f (g ∷ fs) h k = let p = and_parts (is_field g) (list_all is_field fs) k in (h, row_from g fs p.0 p.1)
 
+-- both quantifiers are fields
 quantifier_clean : (b : Bool) → is_field (quantifier b) ≡ true
 quantifier_clean true = refl
 quantifier_clean false = refl
 
+-- the row of an expectation that a text may have is a row of fields
 pub expectation_clean : (input : Input) → Known input → (e : Expectation) → ExpectationIsPlain input e → IsRow (expectation_row input.names e)
 expectation_clean input k e h = row_from (quantifier (is_always e)) (expected_row input.names e) (quantifier_clean (is_always e)) (expected_clean input k e h)

@@ -17,6 +17,7 @@ record Digit (c : ℕ) : Type 0 where
   again : digit_glyph false (hexadecimal_value c) ≡ c
   zero_is : hexadecimal_value c ≡ 0 → c ≡ 48
 
+-- a hexadecimal digit that is read is the one written for its value
 digit : (c : ℕ) → is_hexadecimal_digit c ≡ true → Digit c
 digit c h = go (is_ascii_digit c) (nat_le 97 c && nat_le c 102) refl refl h
   where
@@ -51,6 +52,7 @@ digit c h = go (is_ascii_digit c) (nat_le 97 c && nat_le c 102) refl refl h
 Short : ℕ → ℕ → Type 0
 Short b k = (n : ℕ) (cs : List ℕ) (m : ℕ) → b < n → hexadecimal_after n cs ≡ Some m → length cs ≤ k
 
+-- after a number above 2^28 - 1 no further digit is read
 none : Short 268435455 0
 unfolding Short
 none n [] m lt e = omega arith
@@ -60,6 +62,7 @@ none n (c ∷ cs) m lt e =
     let le = leb-true n 268435455 p.1 in
     absurd (omega (arith, lt, le))
 
+-- if at most k digits are read after numbers above a bound, at most one more is after those above its sixteenth
 one_more : (b k d : ℕ) → Short b k → b < 16 * d + 16 → Short d (k + 1)
 unfolding Short
 one_more b k d short lt n [] m above e = omega arith
@@ -68,6 +71,7 @@ one_more b k d short lt n (c ∷ cs) m above e =
     let few = short (16 * n + hexadecimal_value c) cs m (omega (arith, lt, above)) t.1 in
     omega (arith, few)
 
+-- after a number that is not zero at most seven digits are read
 seven : Short 0 7
 seven =
     one_more 15 6 0 (one_more 255 5 15 (one_more 4095 4 255 (one_more 65535 3 4095 (one_more 1048575 2 65535 (one_more 16777215 1 1048575
@@ -124,10 +128,12 @@ written c cs m lead e =
     seven_of : (n : ℕ) (cs : List ℕ) (m : ℕ) → 0 < n → hexadecimal_after n cs ≡ Some m → length cs ≤ 7
     seven_of = seven
 
+-- the digit zero alone is read as the number that is written so
 alone : (m : ℕ) → hexadecimal_after 0 (48 ∷ []) ≡ Some m → 48 ∷ [] ≡ digits 16 false m
 unfolding digits
 alone m e = let same : 0 ≡ m = cc in rw (← same) refl
 
+-- a field that is read as a hexadecimal number is the hexadecimal digits of that number
 pub hexadecimal_shown : (f : List ℕ) (m : ℕ) → hexadecimal_of f ≡ Some m → f ≡ digits 16 false m
 hexadecimal_shown [] m e = absurd cc
 hexadecimal_shown (c ∷ cs) m e =

@@ -30,6 +30,7 @@ pub record Known (input : Input) : Type 0 where
   pub are : AreRead input.names
   pub counts : Counts input.script input.names
 
+-- a sound input fits, its things are read from their names, and it has as many names as things
 pub known : (input : Input) → IsSound input → Known input
 known input s =
     let fit = sound_fits input s in
@@ -48,6 +49,7 @@ pub record FieldOf {A : Type 0} (read : List ℕ → Result A ScriptKind) (show 
 
 -- ---- numbers
 
+-- the number of a note is written in decimal and read again if it has 32 bits
 pub note_field : FieldOf (read_number 4294967295) decimal (λ n. n ≤ 4294967295)
 note_field = record {
   shown = (number_takes 4294967295 (lit< tt)).shown;
@@ -56,6 +58,7 @@ note_field = record {
   clean = λ n h. decimal_field n (omega (arith, h));
 }
 
+-- a level is written in decimal and read again if it is at most 15
 pub level_field : FieldOf read_level decimal (λ l. l ≤ 15)
 level_field = record {
   shown = level_takes.shown;
@@ -64,6 +67,7 @@ level_field = record {
   clean = λ l h. decimal_field l (omega (arith, h));
 }
 
+-- an interrupt routine's level is written in decimal and read again if such a routine may have it
 pub isr_level_field : FieldOf read_isr_level decimal (λ l. (l ≤ 15) × (is_isr_level l ≡ true))
 isr_level_field = record {
   shown = isr_level_takes.shown;
@@ -72,6 +76,7 @@ isr_level_field = record {
   clean = λ l h. let le = h.0 in decimal_field l (omega (arith, le));
 }
 
+-- a processor is written and read again if the script has it
 pub cpu_field : (input : Input) → Known input → FieldOf (read_cpu input.script.cpus) show_cpu (λ p. has_cpu input.script p ≡ true)
 cpu_field input k = record {
   shown = (cpu_takes input.script.cpus).shown;
@@ -82,9 +87,11 @@ cpu_field input k = record {
 
 -- ---- names
 
+-- a number below a count passes the test against a count equal to it
 has_it : (i n m : ℕ) → n ≡ m → i < n → nat_lt i m ≡ true
 has_it i n m e lt = lt-ltb i m (omega (arith, e, lt))
 
+-- a number that passes the test against a count is below a count equal to it
 below : (i n m : ℕ) → n ≡ m → nat_lt i m ≡ true → i < n
 below i n m e h = let lt = ltb-true i m h in omega (arith, e, lt)
 
@@ -99,33 +106,39 @@ named number n m same t again clean = record {
   clean = λ x h. clean x (below (number x) n m same h);
 }
 
+-- a DPC object is written by its name and read again if the script has it
 pub dpc_named : (input : Input) → Known input → FieldOf (read_dpc input.names) (show_dpc input.names) (λ d. has_dpc input.script d ≡ true)
 dpc_named input k =
     let names = input.names in
     named (λ (x : DpcNo). x.0) (length names.dpcs) (length input.script.dpcs) k.counts.dpcs (dpc_takes names k.fit.few) k.are.dpcs
     (λ x lt. dpc_field names k.fit.names x.0 lt)
 
+-- a timer is written by its name and read again if the script has it
 pub timer_named : (input : Input) → Known input → FieldOf (read_timer input.names) (show_timer input.names) (λ t. has_timer input.script t ≡ true)
 timer_named input k =
     let names = input.names in
     named (λ (x : TimerNo). x.0) (length names.timers) (length input.script.timers) k.counts.timers (timer_takes names k.fit.few) k.are.timers
     (λ x lt. timer_field names k.fit.names x.0 lt)
 
+-- a thread is written by its name and read again if the script has it
 pub thread_named : (input : Input) → Known input → FieldOf (read_thread input.names) (show_thread input.names) (λ t. has_thread input.script t ≡ true)
 thread_named input k =
     let names = input.names in
     named (λ (x : ThreadNo). x.0) (length names.threads) (length input.script.threads) k.counts.threads (thread_takes names k.fit.few) k.are.threads
     (λ x lt. thread_field names k.fit.names x.0 lt)
 
+-- an APC object is written by its name and read again if the script has it
 pub apc_named : (input : Input) → Known input → FieldOf (read_apc input.names) (show_apc input.names) (λ a. has_apc input.script a ≡ true)
 apc_named input k =
     let names = input.names in
     named (λ (x : ApcNo). x.0) (length names.apcs) (length input.script.apcs) k.counts.apcs (apc_takes names k.fit.few) k.are.apcs
     (λ x lt. apc_field names k.fit.names x.0 lt)
 
+-- a lock that the script has is among those with a name
 pub lock_at : (input : Input) → Known input → (l : LockNo) → has_lock input.script l ≡ true → l.0 < length input.names.locks
 lock_at input k l h = below l.0 (length input.names.locks) input.script.locks k.counts.locks h
 
+-- a lock is written by its name and read again if the script has it
 pub lock_named : (input : Input) → Known input → FieldOf (read_lock input.names) (show_lock input.names) (λ l. has_lock input.script l ≡ true)
 lock_named input k =
     let names = input.names in

@@ -37,6 +37,7 @@ each_status P p q r s mode alertable code h =
     go false false false true x y z w h = rw (eqb-true code 192 (and_parts (is_user mode) (code == 192) w).1) s
     go false false false false x y z w h = absurd cc
 
+-- what holds of the statuses 0, 256, 257 and 192 holds of each status that a command may reply
 pub each_reply_status : (P : ℕ → Type 0) → P 0 → P 256 → P 257 → P 192 → (code : ℕ) (r : Replies) → may_end code r ≡ true → P code
 each_reply_status P p q r s code (Waits mode alertable) h = each_status P p q r s mode alertable code h
 each_reply_status P p q r s code Done h = absurd cc
@@ -55,10 +56,12 @@ Among r reply.Blocked = may_block r
 Among r reply.Spin = may_spin r
 Among r (reply.Refused cause) = false
 
+-- yes and no are among the replies of a command that tells yes or no
 tells : (b : Bool) → Among YesOrNo (yes_if b) ≡ true
 tells true = refl
 tells false = refl
 
+-- done and spin are among the replies of a command that is done or spins
 tries : (b : Bool) → Among DoneOrSpin (if b then reply.Done else reply.Spin) ≡ true
 tries true = refl
 tries false = refl
@@ -90,11 +93,13 @@ waits User true false false false true e f = refl
 waits User true false false false false true f = refl
 waits User true false false false false false f = refl
 
+-- the reply of a wait is among those that a wait of this mode may get
 waited : (x : ThreadFacts) (r : Regions) (level : ℕ) (m : Mode) (alertable : Bool) (reached : Option Bool) →
     Among (Waits m alertable) (wait_reply x r level m alertable reached) ≡ true
 waited x r level m alertable reached =
     waits m alertable (is_some (deliverable x.apcs r level)) (is_satisfied x reached) (is_alerted m x) (has_user x.apcs) x.alerted_kernel x.user_pending
 
+-- the reply that the rules give to a command is among those of the command
 told : (s : Script) (st : Stand) (l : Lanes) (c : Command) → Among (replies_of c) (reply_to s st l c) ≡ true
 told s st l (cmd.Raise level) = refl
 told s st l (cmd.Lower level) = refl
@@ -124,6 +129,7 @@ told s st l (cmd.Acquire k) = tries (is_none (lock_at l k).holder)
 told s st l (cmd.Unlock k) = refl
 told s st l (cmd.Note n) = refl
 
+-- a reply among those of a command has a name that an expectation may give it there
 among_named : (c : Command) (y : Reply) → Among (replies_of c) y ≡ true → may_reply c (name_of y) ≡ true
 among_named c reply.Done h = h
 among_named c reply.Yes h = h
@@ -133,9 +139,11 @@ among_named c reply.Blocked h = h
 among_named c reply.Spin h = h
 among_named c (reply.Refused cause) h = absurd cc
 
+-- what a command replies is a reply that an expectation may name of it
 pub replies_may_be : RepliesMayBe
 replies_may_be s st l c = among_named c (reply_to s st l c) (told s st l c)
 
+-- a refusal of a command is a reply that an expectation may name of it
 pub refusals_may_be : RefusalsMayBe
 refusals_may_be level own r f (cmd.Queue d) cause e = absurd cc
 refusals_may_be level own r f (cmd.Unqueue d) cause e = absurd cc

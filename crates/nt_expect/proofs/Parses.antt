@@ -38,6 +38,7 @@ one_takes {A = A} read show Fits good = record { from = from }
         let t = good g b.value b.is in
         made (λ (y : A × Row). Shown (λ x. show x ∷ []) Fits (g ∷ row) y) (b.value, row) y b.then (ap (λ (h : List ℕ). h ∷ row) t.0, t.1)
 
+-- a reader of one field reads it from the front of a row and leaves the fields behind it
 pub one : {A : Type 0} {read : List ℕ → Result A ScriptKind} {show : A → List ℕ} {Fits : A → Type 0} → FieldOf read show Fits →
     Parses (one_field read) (λ x. show x ∷ []) Fits
 one {A = A} {read = read} {show = show} {Fits = Fits} f = record {
@@ -96,6 +97,7 @@ behind_takes {A = A} {read = read} {show = show} {Fits = Fits} takes word = reco
     from [] y e = absurd cc
     from (f ∷ fs) y e = go f fs y (bytes_eq f word) refl e
 
+-- a reader behind a fixed word takes that word and then what it reads
 pub behind : {A : Type 0} {read : Row → Result (A × Row) ScriptKind} {show : A → Row} {Fits : A → Type 0} → Parses read show Fits → (word : List ℕ)
     → is_field word ≡ true → Parses (λ row. behind_word word row >>= read) (λ x. word ∷ show x) Fits
 behind {A = A} {read = read} {show = show} {Fits = Fits} p word plain = record {

@@ -12,6 +12,7 @@ pub through : {A B : Type 0} (P : B → Type 0) (r : Result A ScriptKind) (f : A
 through P (Ok x) f y e k = k x refl e
 through P (Err d) f y e k = absurd cc
 
+-- what holds of a value holds of the result that gives it
 pub made : {B : Type 0} (P : B → Type 0) (x y : B) → ok x ≡ Ok y → P x → P y
 made P x y e h = let same : x ≡ y = cc in subst P same h
 
@@ -24,6 +25,7 @@ pub kept : {A : Type 0} (b : Bool) (o : Option A) (y : A) → cond b o None ≡ 
 kept true o y e = (refl, e)
 kept false o y e = absurd cc
 
+-- a value that is given unless a test holds is there only if the test fails
 pub missed : {A : Type 0} (b : Bool) (o : Option A) (y : A) → cond b None o ≡ Some y → (b ≡ false) × (o ≡ Some y)
 missed false o y e = (refl, e)
 missed true o y e = absurd cc

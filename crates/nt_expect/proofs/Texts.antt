@@ -8,6 +8,7 @@ use Rattle.nt_script.specs.declared.walk.Input.{Input}
 use Rattle.nt_expect.specs.declared.expectations.Watched.{Watched}
 use Rattle.nt_expect.specs.Reading.{never_behind, never_with_word}
 
+-- a consequence of what holds of a call that went well holds of that call too
 pub on_ok : {A E : Type 0} {P Q : Type 0} (r : Result A E) → (P → Q) → OnOk r P → OnOk r Q
 on_ok (Ok x) f p = f p
 on_ok (Err e) f p = tt

@@ -56,6 +56,7 @@ record Went (input : Input) (w : ExpectWalk) (n : ℕ) (line : TextLine) (more :
   takes : taken w said ≡ Ok new
   goes_on : walk input new (n + 1) more ≡ Ok es
 
+-- a walk over a line and more that makes expectations took the line and went on with the others
 went : (input : Input) (w : ExpectWalk) (n : ℕ) (line : TextLine) (more : List TextLine) (es : List Expectation) → walk input w n (line ∷ more) ≡ Ok es →
     Went input w n line more es
 went input w n line more es e = go (read_line input w.place line) refl e
@@ -72,9 +73,11 @@ went input w n line more es e = go (read_line input w.place line) refl e
     go (Err kind) is e = absurd cc
     go (Ok said) is e = stepped said is (taken w said) refl e
 
+-- a step of the walk that succeeds with a state gives that state
 walk_is : (w new : ExpectWalk) → ◌≡◌ {A = Result ExpectWalk ExpectKind} (Ok w) (Ok new) → w ≡ new
 walk_is w new e = cc
 
+-- a line taken at its end has no fields left, and says what was read before
 end_is : (x y : ExpectLine) (row : Row) → at_end x row ≡ Ok y → (row ≡ []) × (x ≡ y)
 end_is x y [] e = (refl, cc)
 end_is x y (f ∷ fs) e = absurd cc
@@ -105,9 +108,11 @@ data Told (input : Input) (row : Row) (said : ExpectLine) : Type 0 where
   AtEnd : row ≡ done_row → said ≡ says.End → Told input row said
   OneMore : (e : Expectation) → row ≡ expectation_row input.names e → ExpectationIsPlain input e → said ≡ says.One e → Told input row said
 
+-- an empty row is no line of the list
 no_word : (input : Input) (said : ExpectLine) → list_line input [] ≡ Ok said → ⊥
 no_word input said e = absurd cc
 
+-- a row that is taken in the list is the end, or that of an expectation which a text may have
 told : (input : Input) → Known input → (row : Row) (said : ExpectLine) → list_line input row ≡ Ok said → Told input row said
 told input k [] said e = absurd (no_word input said e)
 told input k (f ∷ fs) said e = go (bytes_eq f (codes "done")) refl e
@@ -122,6 +127,7 @@ told input k (f ∷ fs) said e = go (bytes_eq f (codes "done")) refl e
         let t = end_is (says.One x.0) said x.1 then in
         OneMore x.0 (s.0 ∙ ap (λ (r : Row). expectation_row input.names x.0 ++ r) t.0 ∙ append-nil (expectation_row input.names x.0)) s.1 (sym t.1))
 
+-- the lines of a walk in the list that makes expectations are those of further ones and of the end
 list_takes : (input : Input) → Known input → (ls : List TextLine) (list : List Expectation) (n : ℕ) (es : List Expectation) → length list ≤ MOST →
     walk input (in_list list) n ls ≡ Ok es → ListTaken input list ls es
 list_takes input k [] list n es few e = absurd cc
@@ -183,6 +189,7 @@ head_takes row said e = go (bytes_eq (first row) (codes "expect")) refl e
     go false is e = absurd cc
     go true is e = let t = end_is says.Head said (rest row) e in (alone row (codes "expect") is refl t.0, sym t.1)
 
+-- lines that are read as expectations are their lines, and a text may have these expectations
 pub walk_takes : (n : ℕ) (input : Input) (ls : List TextLine) (es : List Expectation) → IsSound input → walk input start n ls ≡ Ok es →
     (ls ≡ map line_of (expectation_rows input.names es)) × ArePlain input es
 walk_takes n input [] es sound e = absurd cc
@@ -208,19 +215,23 @@ line_again input w new n row said more clean says takes =
     ap (λ (r : Result ExpectLine ScriptKind). go_on n (step_by w r) (λ new. walk input new (n + 1) more)) read
     ∙ ap (λ (r : Result ExpectWalk ExpectKind). go_on n r (λ new. walk input new (n + 1) more)) takes
 
+-- a quantifier is not the word that ends the list
 not_done : (b : Bool) → bytes_eq (quantifier b) (codes "done") ≡ false
 not_done true = refl
 not_done false = refl
 
+-- the row of an expectation that a text may have is read as this one expectation
 one_again : (input : Input) → Known input → (e : Expectation) → ExpectationIsPlain input e → list_line input (expectation_row input.names e) ≡ Ok (says.One e)
 one_again input k e h =
     rw (not_done (is_always e))
     (bind_is (expectation_of input (quantifier (is_always e)) (expected_row input.names e)) (λ (x : Expectation × Row). at_end (says.One x.0) x.1) (e, [])
     (expectation_again input k e h))
 
+-- an expectation for which there is room is added at the end of the list
 room : (list : List Expectation) (e : Expectation) → length list + 1 ≤ MOST → taken (in_list list) (says.One e) ≡ Ok (in_list (list ++ e ∷ []))
 room list e few = rw (lt-ltb (length list) MOST (omega (arith, few))) refl
 
+-- the lines of expectations and of the end are read as these, added to those before
 list_again : (input : Input) → Known input → (es list : List Expectation) (n : ℕ) → AllByRecursion (ExpectationIsPlain input) es →
     length list + length es ≤ MOST →
     walk input (in_list list) n (map line_of (map (expectation_row input.names) es ++ done_row ∷ [])) ≡ Ok (list ++ es)
@@ -234,6 +245,7 @@ list_again input k (e ∷ es) list n plain few =
     ∙ list_again input k es (list ++ e ∷ []) (n + 1) plain.1 (omega (arith, few, size))
     ∙ ap (λ (xs : List Expectation). Ok xs) (append_assoc list (e ∷ []) es)
 
+-- the lines of expectations that a text may have are read as these expectations
 pub walk_again : (n : ℕ) (input : Input) (es : List Expectation) → IsSound input → ArePlain input es →
     walk input start n (map line_of (expectation_rows input.names es)) ≡ Ok es
 walk_again n input es sound plain =
@@ -241,11 +253,13 @@ walk_again n input es sound plain =
     line_again input start (in_list []) n expect_row says.Head (map line_of (map (expectation_row input.names) es ++ done_row ∷ [])) (refl, tt) refl refl
     ∙ list_again input (known input sound) es [] (n + 1) plain.each (omega (arith, few))
 
+-- expectations that a text may have are all written as rows of fields
 each_clean : (input : Input) → Known input → (es : List Expectation) → AllByRecursion (ExpectationIsPlain input) es →
     AllRows (map (expectation_row input.names) es)
 each_clean input k [] h = tt
 each_clean input k (e ∷ es) h = (expectation_clean input k e h.0, each_clean input k es h.1)
 
+-- the rows of expectations that a text may have are rows of fields
 pub rows_clean : (input : Input) → IsSound input → (es : List Expectation) → ArePlain input es → AllRows (expectation_rows input.names es)
 rows_clean input sound es plain = (
   (refl, tt),

@@ -152,8 +152,9 @@ fn put_call(
     put_reply(out, reply)
 }
 
-/// Adds an event that is watched for.
-fn put_watched(out: &mut Vec<u8>, input: &Input, event: &Watched) -> Result<(), AllocError>
+/// Adds an event that is watched for, with a blank before each of its fields. An error is want of
+/// memory, and the text may then have more at its end.
+pub fn put_watched(out: &mut Vec<u8>, input: &Input, event: &Watched) -> Result<(), AllocError>
     requires sound { IsSound input.now }
     requires fits { watched_fits input.now.script event.now ≡ true }
     ensures { OnOk result

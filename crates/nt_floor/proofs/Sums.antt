@@ -10,11 +10,13 @@ use Rattle.nt_event.specs.Lists.{table, table_from, value_at}
 use Rattle.nt_event.proofs.Tables.{get_or-table, is_table, length-table_from, table-same}
 use Rattle.nt_floor.specs.Sums.{IsSum, sum_of}
 
+-- functions with the same values at the sixteen classes have the same sum
 pub same_sums : (f g : ℕ → ℕ) → ((c : ℕ) → c < 16 → f c ≡ g c) → sum_of f ≡ sum_of g
 same_sums f g h = ap sum (table-same 16 f g h)
 
 -- ---- one value changes
 
+-- a table written at one class has the new value of each class, if the other classes' values stay
 changed_at : (f g : ℕ → ℕ) (c i : ℕ) → c < 16 → i < 16 → ((k : ℕ) → k < 16 → (c == k) ≡ false → g k ≡ f k) → (b : Bool) → (c == i) ≡ b →
     get_or (set (table 16 f) c (g c)) i 0 ≡ g i
 changed_at f g c i h k others true e =
@@ -38,6 +40,7 @@ sum_moves f g c h others =
 
 -- ---- how great a sum is
 
+-- the sum of values that are each at most a bound is at most their number times the bound, from any place
 bound_from : (most k n : ℕ) (f : ℕ → ℕ) → ((i : ℕ) → i < n → f (k + i) ≤ most) → sum (table_from k n f) ≤ n * most
 unfolding table_from
 bound_from most k zero f h = omega arith
@@ -50,6 +53,7 @@ bound_from most k (suc n) f h =
     next : (i : ℕ) → i < n → f (suc k + i) ≤ most
     next i l = let e : k + suc i ≡ suc k + i = omega arith in rw e at (h (suc i) (omega arith))
 
+-- if no class has a value above a bound, the sum is at most sixteen times the bound
 pub sum_bound : (most : ℕ) (f : ℕ → ℕ) → ((c : ℕ) → c < 16 → f c ≤ most) → sum_of f ≤ 16 * most
 sum_bound most f h = bound_from most 0 16 f (λ i l. let e : 0 + i ≡ i = omega arith in rw e (h i l))
 
@@ -77,6 +81,7 @@ apart_step a b s t rest h k e = go (nat_lt a b) refl
             let up = ltb-false s t (e ∙ m) in
             le-ltb (a + s) (b + t) (omega (arith, ltb-false a b l))
 
+-- greater or equal values have a greater or equal sum, greater exactly if some value is, from any place
 sums_from : (f g : ℕ → ℕ) (k n : ℕ) → ((i : ℕ) → i < n → f (k + i) ≤ g (k + i)) → (sum (table_from k n f) ≤ sum (table_from k n g))
     × (nat_lt (sum (table_from k n f)) (sum (table_from k n g)) ≡ list_any (λ v. nat_lt 0 v) (table_from k n (λ c. if nat_lt (f c) (g c) then g c else 0)))
 unfolding table_from
@@ -100,6 +105,7 @@ sum_below f g h = (sums_from f g 0 16 (λ i l. let e : 0 + i ≡ i = omega arith
 
 -- ---- the sum that is kept beside a list of values
 
+-- each entry of a list of zeros is zero
 pub zeros : (n i : ℕ) → get_or {A = ℕ} (replicate {A = ℕ} n 0) i 0 ≡ 0
 zeros zero i = refl
 zeros (suc n) zero = refl

@@ -25,6 +25,7 @@ set_table xs k v l h =
 
 -- ---- one value is raised
 
+-- the greater of a value and zero is the value
 most_of_none : (v : ℕ) → max v 0 ≡ v
 most_of_none v = omega arith
 
@@ -32,6 +33,7 @@ most_of_none v = omega arith
 pub raised_none : (xs : List ℕ) → length xs ≡ 16 → xs ≡ table 16 (λ c. max (value_at xs c) 0)
 raised_none xs l = values_table xs l ∙ table-same 16 _ _ (λ c b. let m = most_of_none (value_at xs c) in omega (arith, m))
 
+-- case of one class: writing a value not below the old one is raising the class to it
 one_value : (xs : List ℕ) (k v c : ℕ) (here : Bool) → (k == c) ≡ here → max (value_at xs k) v ≡ v → (if here then v else value_at xs c)
     ≡ max (value_at xs c) (if here then v else 0)
 one_value xs k v c true e m = let i : k ≡ c = grind (arith, nat_tests) in rw (← i) (let n = m in omega (arith, n))
@@ -43,6 +45,7 @@ pub raised_one : (xs : List ℕ) (k v : ℕ) → length xs ≡ 16 → k < 16 →
 raised_one xs k v l h r =
     set_table xs k v l h ∙ table-same 16 _ _ (λ c b. one_value xs k v c (k == c) refl (omega (arith, r)))
 
+-- case of one class: raising a class to a value that isn't above its own leaves it
 stays_value : (xs : List ℕ) (k v c : ℕ) (here : Bool) → (k == c) ≡ here → v ≤ value_at xs k → value_at xs c ≡ max (value_at xs c) (if here then v else 0)
 stays_value xs k v c true e m = let i : k ≡ c = grind (arith, nat_tests) in let n = rw i at m in omega (arith, n)
 stays_value xs k v c false e m = let n = most_of_none (value_at xs c) in omega (arith, n)
@@ -86,6 +89,7 @@ raised_next old values xs ys k i e h low here b = go (k == i) refl
 abbrev pub above_at : List ℕ → List ℕ → ℕ → ℕ
 above_at seen values k = if nat_lt (value_at seen k) (value_at values k) then value_at values k else 0
 
+-- if a class's value is above what was seen, what it has above is more than zero
 rises : (seen values : List ℕ) (k : ℕ) → value_at seen k < value_at values k → nat_lt 0 (above_at seen values k) ≡ true
 rises seen values k h =
     let t : nat_lt (value_at seen k) (value_at values k) ≡ true = grind (arith, nat_tests) in
@@ -99,9 +103,11 @@ some_above seen values k b h =
     list_any_at (λ v. nat_lt 0 v) (table 16 (above_at seen values)) k 0 (let n = length-table_from 0 16 (above_at seen values) in omega (arith, n, b))
     (rw (get_or-table 16 k (above_at seen values) 0 b) (rises seen values k h))
 
+-- if a class's value isn't above what was seen, what it has above is zero
 stays : (seen values : List ℕ) (k : ℕ) → nat_lt (value_at seen k) (value_at values k) ≡ false → nat_lt 0 (above_at seen values k) ≡ false
 stays seen values k h = rw h refl
 
+-- if no class's value is above the one seen, no entry of the table of values above those seen is above zero
 pub none_above : (seen values : List ℕ) → ((k : ℕ) → k < 16 → nat_lt (value_at seen k) (value_at values k) ≡ false) →
     list_any (λ v. nat_lt 0 v) (table 16 (above_at seen values)) ≡ false
 none_above seen values h =

@@ -16,22 +16,27 @@ passed : (t : Bool) (why : Refusal) (next : Option Refusal) → refuse t why nex
 passed true why next h = cc
 passed false why next h = refl
 
+-- if a check and those after it give no refusal, those after it give none
 passed_on : (t : Bool) (why : Refusal) (next : Option Refusal) → refuse t why next ≡ None → next ≡ None
 passed_on true why next h = cc
 passed_on false why next h = h
 
+-- a number that doesn't test as less than another is at least the other
 not_lt : (a b : ℕ) → nat_lt a b ≡ false → b ≤ a
 not_lt a b h = grind (arith, nat_tests)
 
+-- a raise that isn't refused is to a level not below the innermost frame's
 pub raise_accepted : (f : Frame) (x : Frames) (l : ℕ) → innermost x ≡ Some f → refusal_in (Raise l) x ≡ None → f.level ≤ l
 raise_accepted f x l k m =
     not_lt l f.level (passed (nat_lt l f.level) NotGreater None (rw k at m))
 
+-- a lowering that isn't refused is to a level not below the innermost frame's base
 pub lower_accepted : (f : Frame) (x : Frames) (l : ℕ) → innermost x ≡ Some f → refusal_in (Lower l) x ≡ None → base_of f ≤ l
 lower_accepted f x l k m =
     not_lt l (base_of f) (passed (nat_lt l (base_of f)) BelowBase (refuse (not (is_null f.held) && nat_lt l 2) LockHeld None)
     (passed_on (nat_lt f.level l) NotLess (refuse (nat_lt l (base_of f)) BelowBase (refuse (not (is_null f.held) && nat_lt l 2) LockHeld None)) (rw k at m)))
 
+-- an acquire that isn't refused is at DISPATCH_LEVEL or below, of a lock that the innermost frame doesn't hold
 pub acquire_accepted : (f : Frame) (x : Frames) (k : LockNo) → innermost x ≡ Some f → refusal_in (Acquire k) x ≡ None → (f.level ≤ 2) × (holds k f ≡ false)
 acquire_accepted f x l k m =
     let n : refuse (nat_lt 2 f.level) TooHigh (refuse (holds l f) HeldHere None) ≡ None = rw k at m in (

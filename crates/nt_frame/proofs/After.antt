@@ -47,6 +47,7 @@ same_running g x = go (not (is_null x.own)) x.running
 
 -- ---- begun: `begin`
 
+-- writing the running thread's part with itself leaves the threads' parts as they were
 same_threads : (os : List Frame) (r : Option ThreadNo) (x : Frames) → record {
   own = os;
   running = r;
@@ -55,21 +56,25 @@ same_threads : (os : List Frame) (r : Option ThreadNo) (x : Frames) → record {
 same_threads os r x =
     ap (λ (ts : List (List Frame)). record { own = os; running = r; threads = ts }) (changed_same x.running x.threads)
 
+-- the begin of an interrupt leaves the frames with one more, of this interrupt
 pub after_int : (s : Script) (n : ℕ) (due : Option ℕ) (e : Event) (x : Frames) (level from : ℕ) → IsOurs s e x → e.what ≡ Begin (BeginInt level) from →
     frames_after s n due e x ≡ begun n (Int level) x
 after_int s n due e x level from h k =
     frames_after_is s n due e (Begin (BeginInt level) from) x h k ∙ same_threads (new_frame n (Int level) ∷ x.own) x.running x
 
+-- the begin of a DPC leaves the frames with one more, of this DPC
 pub after_dpc : (s : Script) (n : ℕ) (due : Option ℕ) (e : Event) (x : Frames) (d : DpcNo) (from : ℕ) → IsOurs s e x → e.what ≡ Begin (BeginDpc d) from →
     frames_after s n due e x ≡ begun n (Dpc d) x
 after_dpc s n due e x d from h k =
     frames_after_is s n due e (Begin (BeginDpc d) from) x h k ∙ same_threads (new_frame n (Dpc d) ∷ x.own) x.running x
 
+-- the begin of a threaded DPC leaves the frames with one more, of this threaded DPC
 pub after_threaded : (s : Script) (n : ℕ) (due : Option ℕ) (e : Event) (x : Frames) (d : DpcNo) (from : ℕ) → IsOurs s e x →
     e.what ≡ Begin (BeginThreaded d) from → frames_after s n due e x ≡ begun n (Threaded d) x
 after_threaded s n due e x d from h k =
     frames_after_is s n due e (Begin (BeginThreaded d) from) x h k ∙ same_threads (new_frame n (Threaded d) ∷ x.own) x.running x
 
+-- the begin of an APC leaves the frames with one more, of this APC with its kind
 pub after_apc : (s : Script) (n : ℕ) (due : Option ℕ) (e : Event) (x : Frames) (a : ApcNo) (from : ℕ) → IsOurs s e x → e.what ≡ Begin (BeginApc a) from →
     frames_after s n due e x ≡ begun n (Apc a (kind_of s a)) x
 after_apc s n due e x a from h k =
@@ -83,6 +88,7 @@ after_rundown s n due e x a from r h k q =
     (changed_by (thread_after s n due (Flush a from)) (λ fs. new_frame n (Rundown a) ∷ fs) x.running x.threads (rw q))
     ∙ sym (on_running_is (λ fs. new_frame n (Rundown a) ∷ fs) x.running x)
 
+-- a flush of an APC without a rundown routine leaves the frames as they were
 pub after_flush : (s : Script) (n : ℕ) (due : Option ℕ) (e : Event) (x : Frames) (a : ApcNo) (from : ℕ) → IsOurs s e x → e.what ≡ Flush a from →
     rundown_of s a ≡ None → frames_after s n due e x ≡ x
 after_flush s n due e x a from h k q =
@@ -115,6 +121,7 @@ after_free s n due e x f k h q i =
 
 -- ---- gone on and ended: `normal`, `finish`, `end_base`, `gone`
 
+-- where an APC goes on to its normal routine, the innermost frame begins its normal phase
 pub after_normal : (s : Script) (n : ℕ) (due : Option ℕ) (e : Event) (x : Frames) (f : Frame) → IsOurs s e x → innermost x ≡ Some f → may_go_on x ≡ true →
     e.what ≡ Normal f.name → frames_after s n due e x ≡ at_innermost normal_of x
 after_normal s n due e x f h q m k =
@@ -122,6 +129,7 @@ after_normal s n due e x f h q m k =
     frames_after_is s n due e (Normal f.name) x h k ∙ thread_change x.running (at_name f.name normal_of) (at_head normal_of) x o
     (at_name_head normal_of f (thread_part x) (on_part_of f x o q)) ∙ same_running (at_head normal_of) x
 
+-- the end of a routine that is no base takes the innermost frame away
 pub after_end : (s : Script) (n : ℕ) (due : Option ℕ) (e : Event) (x : Frames) (f : Frame) → IsOurs s e x → innermost x ≡ Some f →
     is_base_body f.body ≡ false → e.what ≡ End f.name → frames_after s n due e x ≡ without_innermost x
 after_end s n due e x f h q b k =
@@ -136,6 +144,7 @@ base_is_on_thread f x h q b = null_is x.own (go (is_null x.own) refl)
     go true i = refl
     go false i = absurd (base_is_not_own f.body (rw i at (innermost_frame f x h q).part) b)
 
+-- the end of a base routine leaves the base as the innermost frame, of a thread that is leaving
 pub after_end_base : (s : Script) (n : ℕ) (due : Option ℕ) (e : Event) (x : Frames) (f : Frame) → IsOurs s e x → innermost x ≡ Some f →
     is_base_body f.body ≡ true → e.what ≡ End f.name → frames_after s n due e x ≡ at_innermost ended_base x
 after_end_base s n due e x f h q b k =
@@ -149,6 +158,7 @@ after_end_base s n due e x f h q b k =
     ∙ thread_change x.running (end_on_thread f.name) (at_head ended_base) x o (end_base_head f (thread_part x) b (on_part_of f x o q))
     ∙ same_running (at_head ended_base) x
 
+-- where a thread is gone, its frames are closed and none runs
 pub after_gone : (s : Script) (n : ℕ) (due : Option ℕ) (e : Event) (x : Frames) (t : ThreadNo) → IsOurs s e x → e.what ≡ Gone t →
     frames_after s n due e x ≡ closed x
 after_gone s n due e x t h k =
@@ -156,32 +166,38 @@ after_gone s n due e x t h k =
 
 -- ---- the others change no frame
 
+-- a look leaves the frames as they were
 pub after_look : (s : Script) (n : ℕ) (due : Option ℕ) (e : Event) (x : Frames) (r : Rises) → length x.threads ≡ length s.threads → e.thread ≡ None →
     e.what ≡ Look r → frames_after s n due e x ≡ x
 after_look s n due e x r l t k =
     rw (k, t) (ap (λ (ts : List (List Frame)). record { own = x.own; running = x.running; threads = ts }) (threads_after s n due (Look r) None x.threads l tt))
 
+-- the expiry of a timer or a delay leaves the frames as they were
 pub after_expire : (s : Script) (n : ℕ) (due : Option ℕ) (e : Event) (x : Frames) (key : TimerKey) (from : ℕ) → IsOurs s e x → e.what ≡ Expire key from →
     frames_after s n due e x ≡ x
 after_expire s n due e x key from h k =
     frames_after_is s n due e (Expire key from) x h k ∙ same_threads x.own x.running x
 
+-- the insert of an expired timer's DPC leaves the frames as they were
 pub after_fire : (s : Script) (n : ℕ) (due : Option ℕ) (e : Event) (x : Frames) (d : DpcNo) (y : Reply) → IsOurs s e x → e.what ≡ Fire d y →
     frames_after s n due e x ≡ x
 after_fire s n due e x d y h k =
     frames_after_is s n due e (Fire d y) x h k ∙ same_threads x.own x.running x
 
+-- the event that a class has been served leaves the frames as they were
 pub after_clean : (s : Script) (n : ℕ) (due : Option ℕ) (e : Event) (x : Frames) (class : ℕ) → IsOurs s e x → e.what ≡ Clean class →
     frames_after s n due e x ≡ x
 after_clean s n due e x class h k =
     frames_after_is s n due e (Clean class) x h k ∙ same_threads x.own x.running x
 
+-- a rest leaves the frames as they were
 pub after_rest : (s : Script) (n : ℕ) (due : Option ℕ) (e : Event) (x : Frames) → IsOurs s e x → e.what ≡ Rest → frames_after s n due e x ≡ x
 after_rest s n due e x h k =
     frames_after_is s n due e Rest x h k ∙ same_threads x.own x.running x
 
 -- ---- taken up: `switch_to`, and then `begin` of the base or `set_again` by the status
 
+-- a switch to a thread leaves this thread running, with its part as the switch makes it, the rest as it was
 switch_is : (s : Script) (n : ℕ) (due : Option ℕ) (e : Event) (x : Frames) (t : ThreadNo) (status : Option ℕ) → length x.threads ≡ length s.threads →
     t.0 < length x.threads → e.thread ≡ Some t → e.what ≡ Switch t status →
     frames_after s n due e x ≡ record { own = x.own; running = Some t; threads = set x.threads t.0 (switched_to n t status (frames_in x.threads t)) }
@@ -189,12 +205,14 @@ switch_is s n due e x t status l b i k =
     rw (k, i) (ap (λ (ts : List (List Frame)). record { own = x.own; running = Some t; threads = ts })
     (threads_after s n due (Switch t status) (Some t) x.threads l b))
 
+-- a switch to a thread without frames takes it up and begins its base
 pub after_first_switch : (s : Script) (n : ℕ) (due : Option ℕ) (e : Event) (x : Frames) (t : ThreadNo) (status : Option ℕ) →
     length x.threads ≡ length s.threads → t.0 < length x.threads → e.thread ≡ Some t → e.what ≡ Switch t status → frames_in x.threads t ≡ [] →
     frames_after s n due e x ≡ begun n (Base t) (taken t x)
 after_first_switch s n due e x t status l b i k q =
     switch_is s n due e x t status l b i k ∙ rw q
 
+-- a switch to a thread with frames takes it up, and its innermost frame gets the status of its wait
 pub after_switch : (s : Script) (n : ℕ) (due : Option ℕ) (e : Event) (x : Frames) (t : ThreadNo) (status : Option ℕ) (f : Frame) →
     length x.threads ≡ length s.threads → t.0 < length x.threads → x.own ≡ [] → e.thread ≡ Some t → e.what ≡ Switch t status →
     head_of (frames_in x.threads t) ≡ Some f → frames_after s n due e x ≡ at_innermost (resumed status) (taken t x)

@@ -27,6 +27,7 @@ use Rattle.nt_event.proofs.Booleans.{and_left, and_right, lt_is, zero_is}
 
 -- ---- the new frame
 
+-- the routine of a special APC is an APC's
 level_of_special : (b : Body) → is_special_body b ≡ true → is_apc_body b ≡ true
 level_of_special (Apc a Special) h = refl
 level_of_special (Apc a Normal) h = refl
@@ -37,6 +38,7 @@ level_of_special (Threaded d) h = cc
 level_of_special (Base t) h = cc
 level_of_special (Rundown a) h = cc
 
+-- a new frame is a frame of its routine's part, if an interrupt's level is one that interrupts have
 new_frame_is : (n : ℕ) (b : Body) → has_isr_level b ≡ true → IsFrame (is_own b) (new_frame n b)
 new_frame_is n b i = record {
   part = refl;
@@ -49,6 +51,7 @@ new_frame_is n b i = record {
   spun = tt;
 }
 
+-- an interrupt that may begin has a level that interrupts have
 isr_level_of : (b : Body) (x : Frames) → may_begin b x ≡ true → has_isr_level b ≡ true
 isr_level_of (Int l) x m = and_left _ _ m
 isr_level_of (Dpc d) x m = refl
@@ -59,12 +62,14 @@ isr_level_of (Rundown a) x m = refl
 
 -- ---- the own part
 
+-- an interrupt above the current level stands over the own frames in rank and name
 over_own_int : (n l : ℕ) (os : List Frame) (r : Option Frame) → IsPart true os → is_isr_level l ≡ true →
     nat_lt (option_map_or (λ f. f.level) (option_or (head_of os) r) 0) l ≡ true → next_name os ≤ n → IsOver (new_frame n (Int l)) os
 over_own_int n l [] r p i t m = tt
 over_own_int n l (g ∷ gs) r p i t m =
     (below_int g.body g.kernel_phase g.level l p.0.part p.0.level (lt_is _ _ t) i, omega arith)
 
+-- a DPC that begins below level 2 stands over the own frames in rank and name
 over_own_dpc : (n : ℕ) (b : Body) (os : List Frame) (r : Option Frame) → rank b ≡ 2 → IsPart true os →
     nat_lt (option_map_or (λ f. f.level) (option_or (head_of os) r) 0) 2 ≡ true → next_name os ≤ n → IsOver (new_frame n b) os
 over_own_dpc n b [] r e p t m = tt
@@ -72,10 +77,12 @@ over_own_dpc n b (g ∷ gs) r e p t m =
     let k : rank g.body < 2 = below_dpc g.body g.kernel_phase g.level p.0.part p.0.interrupt p.0.level (lt_is _ _ t) in
     (omega (arith, e), omega arith)
 
+-- any new frame stands over a part without frames
 over_none : (n : ℕ) (b : Body) (os : List Frame) → is_null os ≡ true → IsOver (new_frame n b) os
 over_none n b [] h = tt
 over_none n b (g ∷ gs) h = cc
 
+-- a routine of the own part that may begin here may stand over the frames of the own part
 pub over_own : (n : ℕ) (b : Body) (x : Frames) → AreNested x → may_begin b x ≡ true → next_name x.own ≤ n → is_own b ≡ true → IsOver (new_frame n b) x.own
 over_own n (Int l) x h m k o =
     over_own_int n l x.own (head_of (thread_part x)) h.own (and_left _ _ m) (and_right _ _ m) k
@@ -87,6 +94,7 @@ over_own n (Rundown a) x h m k o = cc
 
 -- ---- a thread's part
 
+-- the rank of a thread's base routine is below 2
 base_rank : (b : Body) → is_base_body b ≡ true → rank b < 2
 base_rank (Base t) h = lit< tt
 base_rank (Int l) h = cc
@@ -95,6 +103,7 @@ base_rank (Threaded d) h = cc
 base_rank (Apc a kind) h = cc
 base_rank (Rundown a) h = cc
 
+-- a routine of the own part is no base
 pub base_is_not_own : (b : Body) → is_own b ≡ true → is_base_body b ≡ true → ⊥
 base_is_not_own (Base t) o h = cc
 base_is_not_own (Int l) o h = cc
@@ -103,6 +112,7 @@ base_is_not_own (Threaded d) o h = cc
 base_is_not_own (Apc a kind) o h = cc
 base_is_not_own (Rundown a) o h = cc
 
+-- if neither of two tests passes, the first fails, and so does the second
 not_either : (a b : Bool) → not (a || b) ≡ true → a ≡ false
 not_either true b h = cc
 not_either false b h = refl
@@ -111,6 +121,7 @@ not_either false b h = refl
 abbrev OverThread : ℕ → Body → List Frame → List Frame → Type 0
 OverThread n b os fs = (os ≡ []) × IsOver (new_frame n b) fs
 
+-- a special APC that begins at level 0, without own frames, stands over the thread's frames
 over_special : (n : ℕ) (a : ApcNo) (os fs : List Frame) → is_null os ≡ true →
     (option_map_or (λ f. f.level) (option_or (head_of os) (head_of fs)) 0 == 0) ≡ true → IsPart false fs → next_name fs ≤ n → OverThread n (Apc a Special) os fs
 over_special n a [] [] o z p k = (refl, tt)
@@ -120,6 +131,7 @@ over_special n a [] (g ∷ gs) o z p k =
     (refl, (below_apc g.body g.kernel_phase p.0.part b p.0.special, omega arith))
 over_special n a (f ∷ os) fs o z p k = cc
 
+-- a normal APC that begins at level 0, with no normal APC in progress, stands over the thread's frames
 over_normal : (n : ℕ) (a : ApcNo) (os fs : List Frame) → is_null os ≡ true →
     (option_map_or (λ f. f.level) (option_or (head_of os) (head_of fs)) 0 == 0) ≡ true → not (busy_of fs) ≡ true → IsPart false fs → next_name fs ≤ n →
     OverThread n (Apc a Normal) os fs
@@ -143,6 +155,7 @@ over_user n a level r [] (g ∷ gs) h k =
     base_called false next e = cc
 over_user n a level r (f ∷ os) fs h k = cc
 
+-- a base routine stands over the thread's frames where the thread and the processor have none
 over_base : (n : ℕ) (t : ThreadNo) (os fs : List Frame) → is_null os ≡ true → is_null fs ≡ true → OverThread n (Base t) os fs
 over_base n t [] [] o h = (refl, tt)
 over_base n t [] (g ∷ gs) o h = cc
@@ -163,6 +176,7 @@ running_named n x h m = go x.running refl
     go None e = omega arith
     go (Some t) e = m.1 t.0 [] (rw e at h.running)
 
+-- a routine of a thread that may begin here finds the own part empty and may stand over the thread's frames
 pub over_thread : (n : ℕ) (b : Body) (x : Frames) → AreNested x → may_begin b x ≡ true → AreNamedBelow n x → is_own b ≡ false →
     OverThread n b x.own (thread_part x)
 over_thread n (Int l) x h m k o = cc
@@ -184,12 +198,14 @@ over_thread n (Rundown a) x h m k o =
 
 -- ---- what `begin` rests on
 
+-- where a routine of the own part may begin, the own part has fewer than thirteen frames
 pub own_room : (n : ℕ) (b : Body) (x : Frames) → AreNested x → may_begin b x ≡ true → AreNamedBelow n x → is_own b ≡ true → length x.own < 13
 own_room n b x h m k o =
     let r : (0 < rank b) × (rank b ≤ 13) = rank_bounds b (isr_level_of b x m) in
     let l : length x.own < rank b = length-under true x.own (new_frame n b) h.own (over_own n b x h m k.0 o) r.0 in
     omega arith
 
+-- where a routine of a thread may begin, the running thread has fewer than four frames
 pub thread_room : (n : ℕ) (b : Body) (x : Frames) (t : ThreadNo) → AreNested x → may_begin b x ≡ true → AreNamedBelow n x → is_own b ≡ false →
     x.running ≡ Some t → length (frames_in x.threads t) < 4
 thread_room n b x t h m k o e =
@@ -198,11 +214,13 @@ thread_room n b x t h m k o e =
     let s : length (frames_in x.threads t) < rank b = rw e at l in
     omega (arith, thread_rank_bound b o)
 
+-- frames stay nested when a routine of the processor's own part begins
 own_begun : (n : ℕ) (b : Body) (x : Frames) → AreNested x → may_begin b x ≡ true → AreNamedBelow n x → is_own b ≡ true →
     AreNested (on_part true (λ fs. new_frame n b ∷ fs) x)
 own_begun n b x h m k o =
     on_own_nested (λ fs. new_frame n b ∷ fs) x h (rw o at (new_frame_is n b (isr_level_of b x m)), over_own n b x h m k.0 o, h.own) (k.1, h.newer)
 
+-- frames stay nested when a routine of the running thread's part begins
 thread_begun : (n : ℕ) (b : Body) (x : Frames) → AreNested x → may_begin b x ≡ true → AreNamedBelow n x → is_own b ≡ false →
     AreNested (on_part false (λ fs. new_frame n b ∷ fs) x)
 thread_begun n b x h m k o =
@@ -220,6 +238,7 @@ pub begun_on : (n : ℕ) (b : Body) (x : Frames) (t : ThreadNo) → AreNested x 
 begun_on n b x t h m k o e =
     subst (λ (r : Option ThreadNo). AreNested (on_running (λ fs. new_frame n b ∷ fs) r x)) e (thread_begun n b x h m k o)
 
+-- nested frames stay nested where a routine that may begin here begins
 pub begun_nested : (n : ℕ) (b : Body) (x : Frames) → AreNested x → may_begin b x ≡ true → AreNamedBelow n x → AreNested (begun n b x)
 begun_nested n b x h m k = go (is_own b) refl
   where

@@ -17,11 +17,13 @@ use Rattle.nt_frame.proofs.Nested.{on_own_nested, on_running_nested, thread_part
 
 -- ---- the innermost frame is known
 
+-- putting what a function makes of a part's known head there is changing the head by the function
 at_head_same : (g : Frame → Frame) (f : Frame) (fs : List Frame) → head_of fs ≡ Some f → at_head (λ _. g f) fs ≡ at_head g fs
 at_head_same g f [] h = cc
 at_head_same g f (y ∷ ys) h =
     let e : y ≡ f = cc in rw e
 
+-- putting what a function makes of the running thread's innermost frame there is changing it by the function
 on_running_same : (g : Frame → Frame) (f : Frame) (x : Frames) (r : Option ThreadNo) → head_of (option_map_or (frames_in x.threads) r []) ≡ Some f →
     on_running (at_head (λ _. g f)) r x ≡ on_running (at_head g) r x
 on_running_same g f x None h = refl
@@ -37,6 +39,7 @@ at_innermost_same g f x h = go x.own refl h
     go (y ∷ ys) e k =
         let q : head_of x.own ≡ Some f = rw e k in simp (at_head_same g f x.own q)
 
+-- changing the running thread's innermost frame changes nothing where the thread has no frame
 on_running_none : (g : Frame → Frame) (x : Frames) (r : Option ThreadNo) → head_of (option_map_or (frames_in x.threads) r []) ≡ None →
     on_running (at_head g) r x ≡ x
 on_running_none g x None h = refl
@@ -79,6 +82,7 @@ pub record MayStandFor (f g : Frame) (x : Frames) : Type 0 where
   pub crit : crit_of (thread_part x) + g.crit < 2 ^ 32 + f.crit
   pub guard : guard_of (thread_part x) + g.guard < 2 ^ 32 + f.guard
 
+-- a frame that may stand for a frame of a part is a frame of this part too
 stands : (own : Bool) (f g : Frame) (x : Frames) → IsFrame own f → MayStandFor f g x → IsFrame own g
 stands own f g x p m = record {
   part = rw m.body p.part;
@@ -91,10 +95,12 @@ stands own f g x p m = record {
   spun = m.spun;
 }
 
+-- a frame that may stand for one that stands over some frames stands over them too
 over_same : (f g : Frame) (x : Frames) (fs : List Frame) → MayStandFor f g x → IsOver f fs → IsOver g fs
 over_same f g x [] m o = tt
 over_same f g x (y ∷ ys) m o = (rw m.body o.0, rw m.name o.1)
 
+-- the frames of a part are still in order if the innermost one is replaced by one that may stand for it
 part_changed : (own : Bool) (f g : Frame) (x : Frames) (fs : List Frame) → MayStandFor f g x → head_of fs ≡ Some f → IsPart own fs →
     IsPart own (at_head (λ _. g) fs)
 part_changed own f g x [] m h p = tt
@@ -102,6 +108,7 @@ part_changed own f g x (y ∷ ys) m h p =
     let e : y ≡ f = cc in
     (stands own f g x (rw e at p.0) m, over_same f g x ys m (rw e at p.1), p.2)
 
+-- own frames stay newer than the threads' if the innermost one is replaced by one that may stand for it
 newer_changed : (f g : Frame) (x : Frames) (fs : List Frame) (parts : List (List Frame)) → MayStandFor f g x → head_of fs ≡ Some f → AreNewer fs parts →
     AreNewer (at_head (λ _. g) fs) parts
 newer_changed f g x [] parts m h n = tt
@@ -109,6 +116,7 @@ newer_changed f g x (y ∷ ys) parts m h n =
     let e : g.name ≡ y.name = let q : y ≡ f = cc in rw q m.name in
     (rw e n.0, n.1)
 
+-- a count summed over frames stays below 2 ^ 32 if the innermost frame's replacement keeps it so
 sum_changed : (c : Frame → ℕ) (f g : Frame) (fs : List Frame) → head_of fs ≡ Some f → sum_by c fs + c g < 2 ^ 32 + c f → sum_by c (at_head (λ _. g) fs) < 2 ^ 32
 sum_changed c f g [] h l = cc
 sum_changed c f g (y ∷ ys) h l =
@@ -116,6 +124,7 @@ sum_changed c f g (y ∷ ys) h l =
     let k : c y ≡ c f = ap c e in
     omega (arith, sum_by-cons c y ys, sum_by-cons c g ys)
 
+-- nested frames stay nested if the innermost one is replaced by one that may stand for it
 pub at_innermost_nested : (f g : Frame) (x : Frames) → AreNested x → innermost x ≡ Some f → MayStandFor f g x → AreNested (at_innermost (λ _. g) x)
 at_innermost_nested f g x h k m = go x.own refl k
   where

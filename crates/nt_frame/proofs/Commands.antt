@@ -50,6 +50,7 @@ call_by s n due e x f c y h q k place runs =
     ∙ ap (λ (z : Frames). record z { running = running_after (Call f.name c y) x.running }) (at_innermost_by (called due c y) advanced x place)
     ∙ stays (at_innermost advanced x) x (running_after (Call f.name c y) x.running) runs (running-at_innermost advanced x)
 
+-- a refused command changes only the place of its frame
 refused_call : (due : Option ℕ) (c : Command) (why : Refusal) (f : Frame) → called due c (Refused why) f ≡ advanced f
 refused_call due (StartWait m a) why f = refl
 refused_call due (Delay m a units) why f = refl
@@ -57,6 +58,7 @@ refused_call due (Acquire k) why f = refl
 refused_call due (Unlock k) why f = refl
 refused_call due _ why f = refl
 
+-- a refused command leaves the running thread running
 refused_runs : (n : ℕ) (c : Command) (why : Refusal) (r : Option ThreadNo) → running_after (Call n c (Refused why)) r ≡ r
 refused_runs n Yield why r = refl
 refused_runs n _ why r = refl
@@ -82,6 +84,7 @@ is_plain (Acquire k) = false
 is_plain (Unlock k) = false
 is_plain _ = true
 
+-- a frame whose place moves on, whatever the test of Done says, is only advanced, if it doesn't spin
 plain_frame : (b c : Bool) (f : Frame) → b ≡ false →
     record (if c then f else f) {
       place = if b then f.place else (f.place + 1);
@@ -92,6 +95,7 @@ plain_frame : (b c : Bool) (f : Frame) → b ≡ false →
 plain_frame b true f h = rw h refl
 plain_frame b false f h = rw h refl
 
+-- a plain command without a spin changes only the place of its frame
 plain_call : (due : Option ℕ) (c : Command) (y : Reply) → is_plain c ≡ true → is_spin y ≡ false → (f : Frame) → called due c y f ≡ advanced f
 plain_call due (Raise level) y p b f = cc
 plain_call due (Lower level) y p b f = cc
@@ -120,6 +124,7 @@ plain_call due (Clock units) y p b f = plain_frame (is_spin y) (is_done y) f b
 plain_call due ToUser y p b f = plain_frame (is_spin y) (is_done y) f b
 plain_call due (Note m) y p b f = plain_frame (is_spin y) (is_done y) f b
 
+-- a plain command that doesn't block leaves the running thread running
 plain_runs : (n : ℕ) (c : Command) (y : Reply) (r : Option ThreadNo) → is_plain c ≡ true → is_blocked y ≡ false → running_after (Call n c y) r ≡ r
 plain_runs n Yield y r p b = cc
 plain_runs n _ y r p b = rw b
@@ -132,6 +137,7 @@ call_plain s n due e x f c y h q p b i k =
 
 -- ---- levels and regions: `raise`, `lower`, `enter`, `leave`
 
+-- an accepted command for levels or regions has its effect on the frame and then moves its place on
 own_call : (due : Option ℕ) (c : Command) → is_frames_own c ≡ true → (f : Frame) → called due c Done f ≡ advanced (done_to c f)
 own_call due (Raise level) p f = refl
 own_call due (Lower level) p f = refl
@@ -141,10 +147,12 @@ own_call due LeaveCrit p f = refl
 own_call due LeaveGuard p f = refl
 own_call due _ p f = cc
 
+-- an accepted command for levels or regions leaves the running thread running
 own_runs : (n : ℕ) (c : Command) (r : Option ThreadNo) → is_frames_own c ≡ true → running_after (Call n c Done) r ≡ r
 own_runs n Yield r p = cc
 own_runs n _ r p = refl
 
+-- a done call of levels or regions has its effect on the innermost frame, which then goes one place on
 pub call_own : (s : Script) (n : ℕ) (due : Option ℕ) (e : Event) (x : Frames) (f : Frame) (c : Command) → IsOurs s e x → innermost x ≡ Some f →
     is_frames_own c ≡ true → e.what ≡ Call f.name c Done → frames_after s n due e x ≡ at_innermost advanced (at_innermost (done_to c) x)
 call_own s n due e x f c h q p k =
@@ -160,12 +168,14 @@ pub enter_is_own : (r : Region) → is_frames_own (enter_of r) ≡ true
 enter_is_own Crit = refl
 enter_is_own Guard = refl
 
+-- the command that leaves a region is one that the frames alone answer
 pub leave_is_own : (r : Region) → is_frames_own (leave_of r) ≡ true
 leave_is_own Crit = refl
 leave_is_own Guard = refl
 
 -- ---- locks: `acquired`, `unlock`
 
+-- an acquire that is done gives the innermost frame the lock, and it goes one place on
 pub call_acquire : (s : Script) (n : ℕ) (due : Option ℕ) (e : Event) (x : Frames) (f : Frame) (k : LockNo) → IsOurs s e x → innermost x ≡ Some f →
     e.what ≡ Call f.name (Acquire k) Done → frames_after s n due e x ≡ at_innermost advanced (at_innermost (acquired k true) x)
 call_acquire s n due e x f k h q i =
@@ -174,6 +184,7 @@ call_acquire s n due e x f k h q i =
     ∙ at_innermost_by (called due (Acquire k) Done) (λ g. advanced (acquired k true g)) x (λ g. refl)
     ∙ sym (at_innermost-at_innermost advanced (acquired k true) x h.nested)
 
+-- an acquire that spins leaves the innermost frame spinning on the lock at the same place
 pub call_spin : (s : Script) (n : ℕ) (due : Option ℕ) (e : Event) (x : Frames) (f : Frame) (k : LockNo) → IsOurs s e x → innermost x ≡ Some f →
     e.what ≡ Call f.name (Acquire k) Spin → frames_after s n due e x ≡ at_innermost (acquired k false) x
 call_spin s n due e x f k h q i =
@@ -181,6 +192,7 @@ call_spin s n due e x f k h q i =
     ∙ stays (at_innermost (called due (Acquire k) Spin) x) x x.running refl (running-at_innermost (called due (Acquire k) Spin) x)
     ∙ at_innermost_by (called due (Acquire k) Spin) (acquired k false) x (λ g. refl)
 
+-- an unlock frees the lock that the innermost frame acquired last, and the frame goes one place on
 pub call_unlock : (s : Script) (n : ℕ) (due : Option ℕ) (e : Event) (x : Frames) (f : Frame) (k : LockNo) → IsOurs s e x → innermost x ≡ Some f →
     e.what ≡ Call f.name (Unlock k) Done → frames_after s n due e x ≡ at_innermost advanced (at_innermost freed x)
 call_unlock s n due e x f k h q i =
@@ -191,6 +203,7 @@ call_unlock s n due e x f k h q i =
 
 -- ---- waits: `set_again`, `advance_place` and, where it blocks, `switch_away`; a yield likewise
 
+-- a yield that is done lets the innermost frame go one place on and stops the running thread
 pub call_yield : (s : Script) (n : ℕ) (due : Option ℕ) (e : Event) (x : Frames) (f : Frame) → IsOurs s e x → innermost x ≡ Some f →
     e.what ≡ Call f.name Yield Done → frames_after s n due e x ≡ stopped (at_innermost advanced x)
 call_yield s n due e x f h q k = after_call s n due e x f Yield Done h q k
@@ -199,9 +212,11 @@ call_yield s n due e x f h q k = after_call s n due e x f Yield Done h q k
 abbrev pub wait_of : Mode → Bool → Option ℕ → Again
 wait_of m a due = record { mode = m; alertable = a; due = due }
 
+-- what is left of a wait after a status doesn't depend on what was left before
 again_status : (st : ℕ) (w old : Option Again) → again_after (Status st) w old ≡ again_after (Status st) w None
 again_status st w old = refl
 
+-- a wait that ends at once leaves a wait to take up only if interrupted, and the frame goes one place on
 pub call_wait : (s : Script) (n : ℕ) (due : Option ℕ) (e : Event) (x : Frames) (f : Frame) (m : Mode) (a : Bool) (st : ℕ) → IsOurs s e x →
     innermost x ≡ Some f → e.what ≡ Call f.name (StartWait m a) (Status st) →
     frames_after s n due e x ≡ at_innermost advanced (at_innermost (awaiting (again_after (Status st) (Some (wait_of m a None)) None)) x)
@@ -210,6 +225,7 @@ call_wait s n due e x f m a st h q k =
     ∙ stays (at_innermost (called due (StartWait m a) (Status st)) x) x x.running refl (running-at_innermost (called due (StartWait m a) (Status st)) x)
     ∙ sym (at_innermost-at_innermost advanced (awaiting (again_after (Status st) (Some (wait_of m a None)) None)) x h.nested)
 
+-- a wait that blocks is kept to be taken up, the frame goes one place on and the thread stops
 pub call_wait_blocked : (s : Script) (n : ℕ) (due : Option ℕ) (e : Event) (x : Frames) (f : Frame) (m : Mode) (a : Bool) → IsOurs s e x →
     innermost x ≡ Some f → e.what ≡ Call f.name (StartWait m a) Blocked →
     frames_after s n due e x ≡ stopped (at_innermost advanced (at_innermost (awaiting (Some (wait_of m a None))) x))
@@ -217,6 +233,7 @@ call_wait_blocked s n due e x f m a h q k =
     after_call s n due e x f (StartWait m a) Blocked h q k
     ∙ ap stopped (sym (at_innermost-at_innermost advanced (awaiting (Some (wait_of m a None))) x h.nested))
 
+-- a delay that ends at once leaves a delay to take up only if interrupted, and the frame goes one place on
 pub call_delay : (s : Script) (n : ℕ) (due : Option ℕ) (e : Event) (x : Frames) (f : Frame) (m : Mode) (a : Bool) (units st : ℕ) → IsOurs s e x →
     innermost x ≡ Some f → e.what ≡ Call f.name (Delay m a units) (Status st) →
     frames_after s n due e x ≡ at_innermost advanced (at_innermost (awaiting (again_after (Status st) (Some (wait_of m a due)) None)) x)
@@ -225,6 +242,7 @@ call_delay s n due e x f m a units st h q k =
     ∙ stays (at_innermost (called due (Delay m a units) (Status st)) x) x x.running refl (running-at_innermost (called due (Delay m a units) (Status st)) x)
     ∙ sym (at_innermost-at_innermost advanced (awaiting (again_after (Status st) (Some (wait_of m a due)) None)) x h.nested)
 
+-- a delay that blocks is kept with its due time to be taken up, the frame goes on and the thread stops
 pub call_delay_blocked : (s : Script) (n : ℕ) (due : Option ℕ) (e : Event) (x : Frames) (f : Frame) (m : Mode) (a : Bool) (units : ℕ) → IsOurs s e x →
     innermost x ≡ Some f → e.what ≡ Call f.name (Delay m a units) Blocked →
     frames_after s n due e x ≡ stopped (at_innermost advanced (at_innermost (awaiting (Some (wait_of m a due))) x))
@@ -265,6 +283,7 @@ pub switch_on : (s : Script) (n : ℕ) (due : Option ℕ) (e : Event) (x : Frame
 switch_on s n due e x t f l b o i k q =
     after_switch s n due e x t None f l b o i k q ∙ at_innermost_id (taken t x)
 
+-- a switch to a thread whose wait a kernel APC interrupted takes it up and keeps its frames as they were
 pub switch_again : (s : Script) (n : ℕ) (due : Option ℕ) (e : Event) (x : Frames) (t : ThreadNo) (f : Frame) → length x.threads ≡ length s.threads →
     t.0 < length x.threads → x.own ≡ [] → e.thread ≡ Some t → e.what ≡ Switch t (Some kernel_apc) → head_of (frames_in x.threads t) ≡ Some f →
     frames_after s n due e x ≡ taken t x

@@ -19,18 +19,22 @@ use Rattle.nt_frame.proofs.Kept.{innermost_test}
 use Rattle.nt_event.proofs.Booleans.{and_right}
 use Rattle.nt_frame.proofs.Nested.{on_own_nested, on_running_nested, thread_part_nested}
 
+-- the frames of a part without the innermost one are still in order
 tail_part : (own : Bool) (fs : List Frame) → IsPart own fs → IsPart own (tail_of fs)
 tail_part own [] p = tt
 tail_part own (f ∷ fs) p = p.2
 
+-- own frames without the innermost one are still newer than the threads' frames
 tail_newer : (fs : List Frame) (parts : List (List Frame)) → AreNewer fs parts → AreNewer (tail_of fs) parts
 tail_newer [] parts n = tt
 tail_newer (f ∷ fs) parts n = n.1
 
+-- a sum over frames that is below 2 ^ 32 is so without the first frame
 pub tail_sum : (c : Frame → ℕ) (fs : List Frame) → sum_by c fs < 2 ^ 32 → sum_by c (tail_of fs) < 2 ^ 32
 tail_sum c [] h = h
 tail_sum c (f ∷ fs) h = omega (arith, h, sum_by-cons c f fs)
 
+-- nested frames stay nested where the innermost one ends
 pub without_innermost_nested : (x : Frames) → AreNested x → AreNested (without_innermost x)
 without_innermost_nested x h = go x.own refl
   where
@@ -50,6 +54,7 @@ leaving_own : (os fs : List Frame) → option_map_or (λ f. f.leaving) (option_o
 leaving_own [] fs l o = refl
 leaving_own (f ∷ os) fs l o = absurd (base_is_not_own f.body o.0.part (o.0.leaving l))
 
+-- nested frames stay nested where the frames of a leaving thread are closed
 pub closed_nested : (x : Frames) → AreNested x → is_leaving x ≡ true → AreNested (closed x)
 closed_nested x h l =
     let e : x.own ≡ [] = leaving_own x.own (thread_part x) l h.own in
@@ -62,9 +67,11 @@ pub closed_on : (x : Frames) (t : ThreadNo) → AreNested x → is_leaving x ≡
 closed_on x t h l e =
     subst (λ (r : Option ThreadNo). AreNested (record (on_running (λ _. []) r x) { running = None })) e (closed_nested x h l)
 
+-- nested frames stay nested where the running thread stops
 pub stopped_nested : (x : Frames) → AreNested x → AreNested (record x { running = None })
 stopped_nested x h = record { own = h.own; threads = h.threads; running = tt; newer = h.newer }
 
+-- no routine of the processor's own part has a normal routine
 normal_is_not_own : (b : Body) → is_own b ≡ true → has_normal b ≡ true → ⊥
 normal_is_not_own (Apc a kind) o q = cc
 normal_is_not_own (Int l) o q = cc
@@ -73,6 +80,7 @@ normal_is_not_own (Threaded d) o q = cc
 normal_is_not_own (Base t) o q = cc
 normal_is_not_own (Rundown a) o q = cc
 
+-- an APC that may go on to its normal routine has no frame on the own part over it
 pub normal_is_on_thread : (f : Frame) (x : Frames) → AreNested x → innermost x ≡ Some f → may_go_on x ≡ true → is_null x.own ≡ true
 normal_is_on_thread f x h k m = go (is_null x.own) refl
   where

@@ -50,13 +50,16 @@ named n x h = go (innermost x) refl h
 
 -- ---- calls
 
+-- a command that isn't refused leaves what its effect and then the step to the next place leave
 accepted : (c : Command) (x : Frames) → refusal_in c x ≡ None → at_innermost advanced (at_innermost (done_to c) x) ≡ at_innermost advanced (commanded c x)
 accepted c x h = rw h
 
+-- an unlock that isn't refused leaves what freeing the lock and then the step to the next place leave
 unlocked : (l : LockNo) (x : Frames) → refusal_in (Unlock l) x ≡ None →
     at_innermost advanced (at_innermost freed x) ≡ at_innermost advanced (unless_refused (refusal_in (Unlock l) x) (at_innermost freed x) x)
 unlocked l x h = rw h
 
+-- case: a call of the innermost frame leaves what the frame calls of its command leave
 call_case : (s : Script) (n : ℕ) (due : Option ℕ) (e : Event) (x : Frames) (f : Frame) (c : Command) (y : Reply) → IsOurs s e x → innermost x ≡ Some f →
     e.what ≡ Call f.name c y → Replies c y x → frames_after s n due e x ≡ left_by_all (command_calls due c y) x
 call_case s n due e x f (StartWait m a) (Status st) h q k r = call_wait s n due e x f m a st h q k
@@ -98,6 +101,7 @@ call_case s n due e x f c y h q k r = call_by s n due e x f c y h q k (λ g. ref
 
 -- ---- waits that are taken up again
 
+-- case: a wait taken up again that ends with a status leaves what the calls of the status leave
 rewait_status : (s : Script) (n : ℕ) (due : Option ℕ) (e : Event) (x : Frames) (f : Frame) (st : ℕ) (b : Bool) → (st == kernel_apc) ≡ b → IsOurs s e x →
     innermost x ≡ Some f → x.own ≡ [] → e.what ≡ Rewait f.name (Status st) → at_innermost (rewaited (Status st)) x ≡ left_by_all (status_calls (Some st)) x
 rewait_status s n due e x f st true z h q o k =
@@ -105,6 +109,7 @@ rewait_status s n due e x f st true z h q o k =
 rewait_status s n due e x f st false z h q o k =
     at_innermost_by (rewaited (Status st)) (awaiting None) x (λ g. rw z) ∙ rw z
 
+-- case: a wait taken up again leaves what the calls of its reply leave
 rewait_case : (s : Script) (n : ℕ) (due : Option ℕ) (e : Event) (x : Frames) (f : Frame) (y : Reply) → IsOurs s e x → innermost x ≡ Some f → x.own ≡ [] →
     e.what ≡ Rewait f.name y → frames_after s n due e x ≡ left_by_all (rewait_calls y) x
 rewait_case s n due e x f Blocked h q o k = rewait_blocked s n due e x f h q o k
@@ -119,6 +124,7 @@ rewait_case s n due e x f y h q o k =
 
 -- ---- the ends of frames and threads
 
+-- case: the end of the innermost frame leaves what its calls leave, at the base or above it
 end_case : (s : Script) (n : ℕ) (due : Option ℕ) (e : Event) (x : Frames) (f : Frame) (b : Bool) → is_at_base x ≡ b → IsOurs s e x → innermost x ≡ Some f →
     e.what ≡ End f.name → frames_after s n due e x ≡ left_by_all (calls_of s n due (End f.name) x) x
 end_case s n due e x f true b h q k =
@@ -128,6 +134,7 @@ end_case s n due e x f false b h q k =
     let i : is_base_body f.body ≡ false = sym (base_here f x q) ∙ b in
     after_end s n due e x f h q i k ∙ rw b
 
+-- case: a flushed APC leaves what its calls leave, with a rundown routine or without
 flush_case : (s : Script) (n : ℕ) (due : Option ℕ) (e : Event) (x : Frames) (a : ApcNo) (from : ℕ) (r : Option RoutineNo) → rundown_of s a ≡ r → IsOurs s e x →
     e.what ≡ Flush a from → frames_after s n due e x ≡ left_by_all (calls_of s n due (Flush a from) x) x
 flush_case s n due e x a from None q h k = after_flush s n due e x a from h k q ∙ rw q
@@ -135,6 +142,7 @@ flush_case s n due e x a from (Some r) q h k = after_rundown s n due e x a from 
 
 -- ---- a thread is taken up
 
+-- taking a thread up with a status leaves what the calls of the status leave after it is taken
 resumed_case : (x : Frames) (t : ThreadNo) (status : Option ℕ) → at_innermost (resumed status) (taken t x) ≡ left_by_all (status_calls status) (taken t x)
 resumed_case x t None = at_innermost_id (taken t x)
 resumed_case x t (Some st) = go (st == kernel_apc) refl
@@ -143,6 +151,7 @@ resumed_case x t (Some st) = go (st == kernel_apc) refl
     go true z = at_innermost_by (resumed (Some st)) (λ g. g) (taken t x) (λ g. rw z) ∙ at_innermost_id (taken t x) ∙ rw z
     go false z = at_innermost_by (resumed (Some st)) (awaiting None) (taken t x) (λ g. rw z) ∙ rw z
 
+-- case: a switch to a thread leaves what its calls leave, by the frames that the thread has
 switch_case : (s : Script) (n : ℕ) (due : Option ℕ) (e : Event) (x : Frames) (t : ThreadNo) (status : Option ℕ) (fs : List Frame) →
     frames_in x.threads t ≡ fs → length x.threads ≡ length s.threads → t.0 < length x.threads → x.own ≡ [] → e.thread ≡ Some t → e.what ≡ Switch t status →
     frames_after s n due e x ≡ left_by_all (switch_calls n t status fs) x
@@ -153,6 +162,7 @@ switch_case s n due e x t status (f ∷ fs) q l b o i k =
 
 -- ---- all events
 
+-- what each event leaves of the frames is what its calls leave
 pub events_are_calls : EventsAreCalls
 events_are_calls s n due e x h = go e.what refl h.thread h.says
   where
@@ -196,10 +206,12 @@ events_are_calls s n due e x h = go e.what refl h.thread h.says
 
 -- ---- whole histories
 
+-- what two lists of frame calls leave together is what the second leaves after the first
 left_by_all-append : (cs ds : List FrameCall) (x : Frames) → left_by_all (cs ++ ds) x ≡ left_by_all ds (left_by_all cs x)
 left_by_all-append [] ds x = refl
 left_by_all-append (c ∷ cs) ds x = left_by_all-append cs ds (left_by c x)
 
+-- one more event leaves of a processor's frames what the calls of the whole history leave
 history_step : (s : Script) (p : CpuNo) (e : Event) (past : List Event) (b : Bool) → is_of e p ≡ b → EachIsMade s p (e ∷ past) →
     frames_of s p past ≡ left_by_all (calls_in s p past) (no_frames (length s.threads)) →
     frames_of s p (e ∷ past) ≡ left_by_all (calls_in s p (e ∷ past)) (no_frames (length s.threads))
@@ -213,6 +225,7 @@ history_step s p e past true b h old =
     ∙ ap (λ (cs : List FrameCall). left_by_all cs (no_frames (length s.threads))) (sym here)
 history_step s p e past false b h old = frames_stay s p e past b ∙ old ∙ rw b
 
+-- the frames of a history are what its calls leave, beginning with none
 pub histories_are_calls : HistoriesAreCalls
 histories_are_calls s p [] h = refl
 histories_are_calls s p (e ∷ past) h =

@@ -18,6 +18,7 @@ abbrev pub changed : (List Frame → List Frame) → Option ThreadNo → List (L
 changed g None parts = parts
 changed g (Some t) parts = set parts t.0 (g (frames_in parts t))
 
+-- at each place, what an event leaves of the threads' parts is the table with its own thread's part written
 changed_at : (s : Script) (n : ℕ) (due : Option ℕ) (w : What) (t : ThreadNo) (parts : List (List Frame)) (i : ℕ) → t.0 < length parts →
     thread_if (t.0 == i) s n due w (get_or parts i []) ≡ get_or (set parts t.0 (thread_after s n due w (get_or parts t.0 []))) i []
 changed_at s n due w t parts i b = go (t.0 == i) refl
@@ -51,6 +52,7 @@ pub record IsOurs (s : Script) (e : Event) (x : Frames) : Type 0 where
   pub threads : length x.threads ≡ length s.threads
   pub thread : e.thread ≡ x.running
 
+-- an event of the processor changes the own part, the running thread's part and who runs, and nothing else
 pub frames_after_is : (s : Script) (n : ℕ) (due : Option ℕ) (e : Event) (w : What) (x : Frames) → IsOurs s e x → e.what ≡ w →
     frames_after s n due e x ≡ record {
       own = own_after n due w x.own;

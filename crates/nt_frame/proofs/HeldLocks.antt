@@ -18,6 +18,7 @@ use Rattle.nt_frame.specs.HeldLocks.{AreArrays, AreLocks, held_in}
 
 -- ---- the arrays
 
+-- there are as many held locks as places used of the two arrays
 pub length-held : (n : ℕ) (ls ks : List ℕ) → length (held_in n ls ks) ≡ n
 length-held zero ls ks = refl
 length-held (suc n) ls ks = ap suc (length-held n ls ks)
@@ -29,6 +30,7 @@ held_same (suc n) m ls ks a b h =
     rw (get_or-set_other ls m n a 0 (λ e. absurd (omega arith)), get_or-set_other ks m n b 0 (λ e. absurd (omega arith)), held_same n m ls ks a b (omega arith))
     refl
 
+-- a lock and a level written at the next free place of the arrays are the newest held lock
 pub held_more : (n : ℕ) (ls ks : List ℕ) (a b : ℕ) → n < length ls → n < length ks →
     held_in (n + 1) (set ls n a) (set ks n b) ≡ record { lock = lock a; kept = b } ∷ held_in n ls ks
 held_more n ls ks a b h k =
@@ -40,6 +42,7 @@ pub held_last : (n : ℕ) (ls ks : List ℕ) → 0 < n →
 held_last zero ls ks h = absurd (omega arith)
 held_last (suc n) ls ks h = let e : suc n - 1 ≡ n = omega arith in rw e refl
 
+-- no lock is held exactly if no place of the arrays is used
 pub held_null : (n : ℕ) (ls ks : List ℕ) → is_null (held_in n ls ks) ≡ (n == 0)
 held_null zero ls ks = refl
 held_null (suc n) ls ks = grind (arith, nat_tests)
@@ -83,10 +86,12 @@ abbrev numbers : List Held → List ℕ
 numbers [] = []
 numbers (h ∷ hs) = h.lock.0 ∷ numbers hs
 
+-- a list of held locks has as many lock numbers as locks
 length-numbers : (hs : List Held) → length (numbers hs) ≡ length hs
 length-numbers [] = refl
 length-numbers (h ∷ hs) = ap suc (length-numbers hs)
 
+-- if no held lock has a number, it differs from each of their lock numbers
 none_is : (k : ℕ) (hs : List Held) → list_any (λ h. h.lock.0 == k) hs ≡ false → All (λ y. (k == y) ≡ false) (numbers hs)
 none_is k [] f = All-nil (λ y. (k == y) ≡ false)
 none_is k (h ∷ hs) f = go (h.lock.0 == k) refl f (none_is k hs)
@@ -96,6 +101,7 @@ none_is k (h ∷ hs) f = go (h.lock.0 == k) refl f (none_is k hs)
     go true e q later = absurd (cc)
     go false e q later = All-cons (λ y. (k == y) ≡ false) h.lock.0 (numbers hs) (grind (arith, nat_tests)) (later q)
 
+-- the lock numbers of held locks that are each held once are distinct
 distinct : (hs : List Held) → AreLocks hs → IsDistinct (λ a b. a == b) (numbers hs)
 unfolding IsDistinct
 distinct [] a = tt
@@ -103,6 +109,7 @@ distinct (h ∷ hs) a =
     IsDistinct-cons (λ a b. a == b) h.lock.0 (numbers hs) (recursion_from_All (λ y. (h.lock.0 == y) ≡ false) (numbers hs) (none_is h.lock.0 hs a.1))
     (distinct hs a.2)
 
+-- each lock number of held locks is below 64
 below : (hs : List Held) → AreLocks hs → (q : ℕ) → list_any (λ y. q == y) (numbers hs) ≡ true → q < 64
 below [] a q m = cc
 below (h ∷ hs) a q m = go (q == h.lock.0) refl m (below hs a.2 q)
@@ -111,6 +118,7 @@ below (h ∷ hs) a q m = go (q == h.lock.0) refl m (below hs a.2 q)
     go true e n later = let i : q ≡ h.lock.0 = grind (arith, nat_tests) in omega (arith, a.0)
     go false e n later = later n
 
+-- a frame that doesn't hold one of the 64 locks holds fewer than 64
 pub held_room : (k : LockNo) (hs : List Held) → AreLocks hs → k.0 < 64 → list_any (λ h. h.lock.0 == k.0) hs ≡ false → length hs < 64
 held_room k hs a b f =
     let all : AreLocks (record { lock = k; kept = 0 } ∷ hs) = (b, f, a) in
@@ -119,10 +127,12 @@ held_room k hs a b f =
     let m : suc (length (numbers hs)) ≤ 64 = n in
     omega (arith, length-numbers hs)
 
+-- held locks that are all different stay so without the newest one
 pub tail_locks : (hs : List Held) → AreLocks hs → AreLocks (tail_of hs)
 tail_locks [] a = tt
 tail_locks (h ∷ hs) a = a.2
 
+-- the arrays stay well formed where a lock that isn't held is written at the next free place
 pub arrays_more : (n : ℕ) (ls ks : List ℕ) (k : LockNo) (level : ℕ) → AreArrays n ls ks → k.0 < 64 →
     list_any (λ h. h.lock.0 == k.0) (held_in n ls ks) ≡ false → AreArrays (n + 1) (set ls n k.0) (set ks n level)
 arrays_more n ls ks k level a b f =
@@ -134,9 +144,11 @@ arrays_more n ls ks k level a b f =
       held = rw (held_more n ls ks k.0 level (omega (arith, a.locks)) (omega (arith, a.levels))) (b, f, a.held);
     }
 
+-- where a lock isn't held, the arrays have a free place
 pub arrays_room : (n : ℕ) (ls ks : List ℕ) (k : LockNo) → AreArrays n ls ks → k.0 < 64 → list_any (λ h. h.lock.0 == k.0) (held_in n ls ks) ≡ false → n < 64
 arrays_room n ls ks k a b f = omega (arith, held_room k (held_in n ls ks) a.held b f, length-held n ls ks)
 
+-- the arrays stay well formed where the newest held lock is given up
 pub arrays_less : (n : ℕ) (ls ks : List ℕ) → AreArrays n ls ks → 0 < n → AreArrays (n - 1) ls ks
 arrays_less zero ls ks a h = absurd (omega arith)
 arrays_less (suc n) ls ks a h =

@@ -26,14 +26,17 @@ use Rattle.nt_frame.proofs.Changed.{MayStandFor, at_innermost_nested, at_innermo
 use Rattle.nt_frame.proofs.Nested.{thread_part_nested}
 use Rattle.nt_event.proofs.Booleans.{and_right}
 
+-- if held locks keep levels not below a bound, they keep levels not below a smaller one
 keep_at_least : (a b : ℕ) (hs : List Held) → b ≤ a → KeepAtLeast a hs → KeepAtLeast b hs
 keep_at_least a b [] l k = tt
 keep_at_least a b (h ∷ hs) l k = (omega (arith, k.0), keep_at_least a b hs l k.1)
 
+-- held locks keep levels of at least zero
 keep_none : (hs : List Held) → KeepAtLeast 0 hs
 keep_none [] = tt
 keep_none (h ∷ hs) = (omega arith, keep_none hs)
 
+-- if no held lock keeps a level below a bound, so it is without the newest one
 pub keep_tail : (a : ℕ) (hs : List Held) → KeepAtLeast a hs → KeepAtLeast a (tail_of hs)
 keep_tail a [] k = tt
 keep_tail a (h ∷ hs) k = k.1
@@ -46,6 +49,7 @@ kept_base own f p = go f.spin p.spun
     go None q = p.level
     go (Some h) q = q
 
+-- the level after a frame frees the lock that it acquired last is not below its base
 pub freed_base : (own : Bool) (f : Frame) → IsFrame own f → base_of f ≤ freed_level f
 freed_base own f p = go f.held p.kept
   where
@@ -57,6 +61,7 @@ freed_base own f p = go f.held p.kept
 changes : (g : Frame → Frame) (f : Frame) (x : Frames) → AreNested x → innermost x ≡ Some f → MayStandFor f (g f) x → AreNested (at_innermost g x)
 changes g f x h k m = rw (← at_innermost_same g f x k) (at_innermost_nested f (g f) x h k m)
 
+-- nested frames stay nested where the innermost one gets a level not below its base
 pub level_nested : (f : Frame) (x : Frames) (l : ℕ) → AreNested x → innermost x ≡ Some f → base_of f ≤ l →
     AreNested (at_innermost (λ y. record y { level = l }) x)
 level_nested f x l h k b =
@@ -75,6 +80,7 @@ level_nested f x l h k b =
       guard = omega (arith, t.guard);
     })
 
+-- nested frames stay nested where the innermost one goes one place on
 pub advanced_nested : (f : Frame) (x : Frames) → AreNested x → innermost x ≡ Some f → AreNested (at_innermost advanced x)
 advanced_nested f x h k =
     let p : IsFrame (not (is_null x.own)) f = innermost_frame f x h k in
@@ -92,6 +98,7 @@ advanced_nested f x h k =
       guard = omega (arith, t.guard);
     })
 
+-- nested frames stay nested where the innermost one tries a lock at DISPATCH_LEVEL or below
 pub acquired_nested : (f : Frame) (x : Frames) (l : LockNo) (done : Bool) → AreNested x → innermost x ≡ Some f → f.level ≤ 2 →
     AreNested (at_innermost (acquired l done) x)
 acquired_nested f x l true h k b =
@@ -125,6 +132,7 @@ acquired_nested f x l false h k b =
       guard = omega (arith, t.guard);
     })
 
+-- nested frames stay nested where the innermost one frees its last lock
 pub freed_nested : (f : Frame) (x : Frames) → AreNested x → innermost x ≡ Some f → AreNested (at_innermost freed x)
 freed_nested f x h k =
     let p : IsFrame (not (is_null x.own)) f = innermost_frame f x h k in
@@ -142,6 +150,7 @@ freed_nested f x h k =
       guard = omega (arith, t.guard);
     })
 
+-- nested frames stay nested where a wait to take up is set or cleared in the innermost one
 pub again_nested : (f : Frame) (x : Frames) (a : Option Again) → AreNested x → innermost x ≡ Some f → AreNested (at_innermost (λ y. record y { again = a }) x)
 again_nested f x a h k =
     let p : IsFrame (not (is_null x.own)) f = innermost_frame f x h k in
@@ -159,6 +168,7 @@ again_nested f x a h k =
       guard = omega (arith, t.guard);
     })
 
+-- nested frames stay nested where the innermost one gets a count of critical regions that fits 32 bits
 pub crit_nested : (f : Frame) (x : Frames) (n : ℕ) → AreNested x → innermost x ≡ Some f → crit_of (thread_part x) + n < 2 ^ 32 + f.crit →
     AreNested (at_innermost (with_entered Crit n) x)
 crit_nested f x n h k b =
@@ -177,6 +187,7 @@ crit_nested f x n h k b =
       guard = omega (arith, t.guard);
     })
 
+-- nested frames stay nested where the innermost one gets a count of guarded regions that fits 32 bits
 pub guard_nested : (f : Frame) (x : Frames) (n : ℕ) → AreNested x → innermost x ≡ Some f → guard_of (thread_part x) + n < 2 ^ 32 + f.guard →
     AreNested (at_innermost (with_entered Guard n) x)
 guard_nested f x n h k b =
@@ -199,6 +210,7 @@ guard_nested f x n h k b =
 pub innermost_test : (test : Frame → Bool) (f : Frame) (x : Frames) → innermost x ≡ Some f → option_map_or test (innermost x) false ≡ true → test f ≡ true
 innermost_test test f x k m = rw k at m
 
+-- in its normal routine an APC has the base level 0
 normal_base : (b : Body) → has_normal b ≡ true → base_level b false ≤ 0
 normal_base (Apc a kind) h = lit≤ tt
 normal_base (Int l) h = cc
@@ -207,6 +219,7 @@ normal_base (Threaded d) h = cc
 normal_base (Base t) h = cc
 normal_base (Rundown a) h = cc
 
+-- no routine with a normal routine is that of a special APC
 normal_special : (b : Body) → has_normal b ≡ true → is_special_body b ≡ true → false ≡ true
 normal_special (Apc a Special) h s = h
 normal_special (Apc a Normal) h s = s
@@ -217,6 +230,7 @@ normal_special (Threaded d) h s = s
 normal_special (Base t) h s = s
 normal_special (Rundown a) h s = s
 
+-- nested frames stay nested where the innermost one goes on to its normal routine
 pub normal_nested : (f : Frame) (x : Frames) → AreNested x → innermost x ≡ Some f → may_go_on x ≡ true → AreNested (at_innermost normal_of x)
 normal_nested f x h k m =
     let p : IsFrame (not (is_null x.own)) f = innermost_frame f x h k in
@@ -235,6 +249,7 @@ normal_nested f x h k m =
       guard = omega (arith, t.guard);
     })
 
+-- a thread's base routine has the base level 0
 left_base : (b : Body) (k : Bool) → is_base_body b ≡ true → base_level b k ≤ 0
 left_base (Base t) k h = lit≤ tt
 left_base (Int l) k h = cc
@@ -243,6 +258,7 @@ left_base (Threaded d) k h = cc
 left_base (Apc a kind) k h = cc
 left_base (Rundown a) k h = cc
 
+-- nested frames stay nested where the innermost one is a base that ends
 pub left_nested : (f : Frame) (x : Frames) → AreNested x → innermost x ≡ Some f → is_at_base x ≡ true → AreNested (at_innermost ended_base x)
 left_nested f x h k m =
     let p : IsFrame (not (is_null x.own)) f = innermost_frame f x h k in
@@ -263,6 +279,7 @@ left_nested f x h k m =
 
 -- ---- each change
 
+-- nested frames stay nested at each change of the innermost one that meets its condition
 pub change_nested : (c : Change) (x : Frames) → AreNested x → KeepsNested c x → AreNested (at_innermost (changed c) x)
 change_nested c x h k = go (innermost x) refl
   where
@@ -286,6 +303,7 @@ change_nested c x h k = go (innermost x) refl
 pub change_on_own : (c : Change) (x : Frames) → AreNested x → KeepsNested c x → is_null x.own ≡ false → AreNested (record x { own = at_head (changed c) x.own })
 change_on_own c x h k o = subst (λ (b : Bool). AreNested (on_part (not b) (at_head (changed c)) x)) o (change_nested c x h k)
 
+-- with the own part empty, a change that meets its condition at the running thread's part keeps frames nested
 pub change_on_thread : (c : Change) (x : Frames) (t : ThreadNo) → AreNested x → KeepsNested c x → is_null x.own ≡ true → x.running ≡ Some t →
     AreNested (record x { threads = set x.threads t.0 (at_head (changed c) (frames_in x.threads t)) })
 change_on_thread c x t h k o r =

@@ -13,52 +13,63 @@ use Rattle.nt_frame.proofs.Events.{changed}
 
 -- ---- one part
 
+-- the test whether a frame's name is the same as itself passes
 pub same_name : (n : ℕ) → (n == n) ≡ true
 same_name n = grind (arith, nat_tests)
 
+-- a name older than a new one is found different from it
 other_name : (a n : ℕ) → a + 1 ≤ n → (a == n) ≡ false
 other_name a n h = grind (arith, nat_tests)
 
+-- a change by the name of a part's innermost frame is a change of the innermost frame
 pub at_name_head : (g : Frame → Frame) (f : Frame) (fs : List Frame) → head_of fs ≡ Some f → at_name f.name g fs ≡ at_head g fs
 at_name_head g f [] h = refl
 at_name_head g f (y ∷ ys) h =
     let e : y ≡ f = cc in rw (e, same_name f.name)
 
+-- a change by a name newer than all of a part's frames leaves the part as it was
 pub at_name_older : (g : Frame → Frame) (n : ℕ) (fs : List Frame) → next_name fs ≤ n → at_name n g fs ≡ fs
 at_name_older g n [] h = refl
 at_name_older g n (y ∷ ys) h = rw (other_name y.name n h)
 
+-- a part without the frame named as its innermost one is the part without its innermost frame
 pub without_head : (f : Frame) (fs : List Frame) → head_of fs ≡ Some f → without f.name fs ≡ tail_of fs
 without_head f [] h = refl
 without_head f (y ∷ ys) h =
     let e : y ≡ f = cc in rw (e, same_name f.name)
 
+-- the end by name of an innermost frame that is no base takes it off the thread's part
 pub end_head : (f : Frame) (fs : List Frame) → is_base_body f.body ≡ false → head_of fs ≡ Some f → end_on_thread f.name fs ≡ tail_of fs
 end_head f [] b h = refl
 end_head f (y ∷ ys) b h =
     let e : y ≡ f = cc in rw (e, same_name f.name, b)
 
+-- the end by name of an innermost base keeps it on the thread's part as one that is leaving
 pub end_base_head : (f : Frame) (fs : List Frame) → is_base_body f.body ≡ true → head_of fs ≡ Some f → end_on_thread f.name fs ≡ at_head ended_base fs
 end_base_head f [] b h = refl
 end_base_head f (y ∷ ys) b h =
     let e : y ≡ f = cc in rw (e, same_name f.name, b)
 
+-- the end by a name newer than all of a thread's frames leaves the thread's part as it was
 pub end_older : (n : ℕ) (fs : List Frame) → next_name fs ≤ n → end_on_thread n fs ≡ fs
 end_older n [] h = refl
 end_older n (y ∷ ys) h = rw (other_name y.name n h)
 
 -- ---- the parts of the threads
 
+-- a change on the running thread leaves the own part and who runs as they were
 pub on_running_is : (g : List Frame → List Frame) (r : Option ThreadNo) (x : Frames) →
     on_running g r x ≡ record { own = x.own; running = x.running; threads = changed g r x.threads }
 on_running_is g None x = refl
 on_running_is g (Some t) x = refl
 
+-- two changes that do the same to the running thread's part leave the same parts
 pub changed_by : (t g : List Frame → List Frame) (r : Option ThreadNo) (parts : List (List Frame)) →
     t (option_map_or (frames_in parts) r []) ≡ g (option_map_or (frames_in parts) r []) → changed t r parts ≡ changed g r parts
 changed_by t g None parts e = refl
 changed_by t g (Some u) parts e = ap (λ (fs : List Frame). set parts u.0 fs) e
 
+-- a change that leaves the running thread's part as it was leaves all parts as they were
 pub changed_stays : (t : List Frame → List Frame) (r : Option ThreadNo) (parts : List (List Frame)) →
     t (option_map_or (frames_in parts) r []) ≡ option_map_or (frames_in parts) r [] → changed t r parts ≡ parts
 changed_stays t None parts e = refl

@@ -10,9 +10,11 @@ use Rattle.nt_event.proofs.Tables.{get_or-table, length-table_from}
 use Rattle.nt_frame.specs.Changes.{no_frames, on_part, on_running}
 use Rattle.nt_frame.specs.Nesting.{AreNested, AreNewer, IsPart, IsThreadPart}
 
+-- a thread without frames has its frames in order
 empty_part : IsThreadPart []
 empty_part = record { part = tt; crit = lit< tt; guard = lit< tt }
 
+-- the frames at the start are nested, as there are none
 pub nested_start : (n : ℕ) → AreNested (no_frames n)
 nested_start n = record {
   own = tt;
@@ -30,6 +32,7 @@ thread_part_nested x h = go x.running refl
     go None e = empty_part
     go (Some t) e = h.threads t.0 [] (rw e at h.running)
 
+-- with the own part empty, nested frames stay nested if the running thread's part becomes a part of a thread
 pub on_running_nested : (g : List Frame → List Frame) (x : Frames) → AreNested x → x.own ≡ [] → IsThreadPart (g (thread_part x)) →
     AreNested (on_running g x.running x)
 on_running_nested g x h o p = go x.running refl p
@@ -43,6 +46,7 @@ on_running_nested g x h o p = go x.running refl p
       newer = rw o tt;
     }
 
+-- nested frames stay nested if the own part becomes a well-formed part that is newer than the threads' frames
 pub on_own_nested : (g : List Frame → List Frame) (x : Frames) → AreNested x → IsPart true (g x.own) → AreNewer (g x.own) x.threads →
     AreNested (on_part true g x)
 on_own_nested g x h p n = record { own = p; threads = h.threads; running = h.running; newer = n }

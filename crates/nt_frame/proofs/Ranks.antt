@@ -14,12 +14,15 @@ use Rattle.nt_frame.specs.Nesting.{IsOver, IsPart, has_isr_level, is_special_bod
 isr_level_is : (l : ℕ) → is_isr_level l ≡ true → (3 ≤ l) × (l ≤ 14) × (l ≢ 12)
 isr_level_is l h = (grind (arith, nat_tests), grind (arith, nat_tests), λ e. absurd (cc))
 
+-- the rank of an interrupt level from 3 to 14, 12 left out, is from 3 to 13
 int_rank_bounds : (l : ℕ) → (3 ≤ l) × (l ≤ 14) × (l ≡ 12 → ⊥) → (3 ≤ (if nat_lt l 12 then l else (l - 1))) × ((if nat_lt l 12 then l else (l - 1)) ≤ 13)
 int_rank_bounds l h = (grind (arith, nat_tests), grind (arith, nat_tests))
 
+-- a higher interrupt level has a higher rank, if it isn't 12
 int_rank-lt : (k l : ℕ) → (l ≡ 12 → ⊥) → k < l → (if nat_lt k 12 then k else (k - 1)) < (if nat_lt l 12 then l else (l - 1))
 int_rank-lt k l h t = grind (arith, nat_tests)
 
+-- the rank of a routine is between 1 and 13, if an interrupt's level is one of an ISR
 pub rank_bounds : (b : Body) → has_isr_level b ≡ true → (0 < rank b) × (rank b ≤ 13)
 rank_bounds (Int l) h =
     let k : (3 ≤ (if nat_lt l 12 then l else (l - 1))) × ((if nat_lt l 12 then l else (l - 1)) ≤ 13) = int_rank_bounds l (isr_level_is l h) in
@@ -32,6 +35,7 @@ rank_bounds (Apc a Special) h = (lit< tt, lit≤ tt)
 rank_bounds (Base t) h = (lit< tt, lit≤ tt)
 rank_bounds (Rundown a) h = (lit< tt, lit≤ tt)
 
+-- the rank of a routine of a thread is at most 4
 pub thread_rank_bound : (b : Body) → is_own b ≡ false → rank b ≤ 4
 thread_rank_bound (Int l) h = cc
 thread_rank_bound (Dpc d) h = cc
@@ -81,6 +85,7 @@ below_apc (Apc a Special) k o h s =
 below_apc (Base u) k o h s = lit< tt
 below_apc (Rundown a) k o h s = lit< tt
 
+-- a routine of a thread with a rank below 4 that is no normal APC has a rank below 3
 pub below_normal : (b : Body) → is_own b ≡ false → rank b < 4 → is_normal_apc_body b ≡ false → rank b < 3
 below_normal (Int m) o r n = cc
 below_normal (Dpc d) o r n = cc

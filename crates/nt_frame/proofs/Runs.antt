@@ -19,6 +19,7 @@ unfolding MayCallAll
 may_next calls start i answers x c h b e =
     (rw (drop-cons calls i c b, e) at h.may).0
 
+-- if a list of calls was followed up to a place, it is followed one further after the call at this place
 pub going_next : (calls : List FrameCall) (start : Frames) (i : ℕ) (answers : List FrameAnswer) (x : Frames) (c : FrameCall) → Going calls start i answers x →
     i < length calls → get_or calls i c ≡ c → Going calls start (i + 1) (answers ++ answer_to c x ∷ []) (left_by c x)
 unfolding MayCallAll

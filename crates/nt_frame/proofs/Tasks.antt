@@ -25,21 +25,26 @@ use Rattle.nt_event.proofs.Booleans.{and_both, and_left, and_right}
 
 -- ---- what is known of the innermost frame
 
+-- whether a command is refused is decided by the level, the own part, the regions and the innermost frame
 pub refusal_here : (c : Command) (f : Frame) (x : Frames) → innermost x ≡ Some f →
     refusal_in c x ≡ refusal (level_in x) (not (is_null x.own)) (regions_in x) f c
 refusal_here c f x k = rw k
 
+-- the processor is in a leaving thread exactly if its innermost frame is leaving
 pub leaving_here : (f : Frame) (x : Frames) → innermost x ≡ Some f → is_leaving x ≡ f.leaving
 leaving_here f x k = rw k
 
+-- the processor is at a base exactly if its innermost frame is a base
 pub base_here : (f : Frame) (x : Frames) → innermost x ≡ Some f → is_at_base x ≡ is_base_body f.body
 base_here f x k = rw k
 
+-- an APC may go on exactly if the innermost frame is in its kernel routine with a normal routine behind it
 pub normal_here : (f : Frame) (x : Frames) → innermost x ≡ Some f → may_go_on x ≡ (f.kernel_phase && has_normal f.body)
 normal_here f x k = rw k
 
 -- ---- what may begin
 
+-- what a search finds in a list of good numbers passes the search's test and is good
 found : (test good : ℕ → Bool) (xs : List ℕ) (c : ℕ) → list_all good xs ≡ true → find test xs ≡ Some c → (test c ≡ true) × (good c ≡ true)
 found test good [] c g h = absurd (cc)
 found test good (y ∷ ys) c g h =
@@ -56,6 +61,7 @@ int_may_begin x c h =
     let f : (may_interrupt x c ≡ true) × (is_isr_level c ≡ true) = found (may_interrupt x) is_isr_level interrupt_classes c refl h in
     and_both _ _ f.1 (and_left _ _ f.0)
 
+-- a processor that may drain its queue may begin a DPC
 pub dpc_may_begin : (x : Own) (d : DpcNo) → may_drain x ≡ true → may_begin (Dpc d) x.frames ≡ true
 dpc_may_begin x d h = and_left _ _ h
 
@@ -63,10 +69,12 @@ dpc_may_begin x d h = and_left _ _ h
 pub idle_dpc_may_begin : (x : Frames) (d : DpcNo) → innermost x ≡ None → may_begin (Dpc d) x ≡ true
 idle_dpc_may_begin x d k = rw k
 
+-- a processor that may run threaded DPCs may begin a threaded DPC
 pub threaded_may_begin : (x : Own) (d : DpcNo) → may_threaded x ≡ true → may_begin (Threaded d) x.frames ≡ true
 threaded_may_begin x d h =
     rw (and_left (level_at x == 0) _ h, and_left (is_null x.frames.own) _ (and_right (level_at x == 0) _ h))
 
+-- a processor that may deliver APCs may begin a kernel APC that the regions let through
 pub apc_may_begin : (x : Own) (a : ApcNo) (kind : ApcKind) → may_apcs x ≡ true → is_kernel_kind kind ≡ true → lets_through (regions_in x.frames) kind ≡ true →
     may_begin (Apc a kind) x.frames ≡ true
 apc_may_begin x a User h k l = cc
@@ -79,6 +87,7 @@ apc_may_begin x a Normal h k l =
 pub user_may_begin : (x : Frames) (a : ApcNo) → refusal_in ToUser x ≡ None → may_begin (Apc a User) x ≡ true
 user_may_begin x a h = rw h
 
+-- in a leaving thread a rundown routine may begin
 pub rundown_may_begin : (x : Frames) (a : ApcNo) → is_leaving x ≡ true → may_begin (Rundown a) x ≡ true
 rundown_may_begin x a h = h
 

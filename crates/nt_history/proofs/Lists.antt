@@ -16,15 +16,18 @@ use Rattle.nt_history.specs.Briefs.{noticed_of, values_at, what_of}
 
 -- ---- places of a list that grew
 
+-- the elements of a list stay at their places if a list is appended
 before : {A : Type 0} (xs ys : List A) (i : ℕ) (d : A) → i < length xs → get_or (xs ++ ys) i d ≡ get_or xs i d
 before [] ys i d h = absurd (omega (arith, h))
 before (x ∷ xs) ys zero d h = refl
 before (x ∷ xs) ys (suc i) d h = before xs ys i d (omega (arith, h))
 
+-- an element appended to a list is at the place after its last
 behind : {A : Type 0} (xs : List A) (y d : A) → get_or (xs ++ y ∷ []) (length xs) d ≡ y
 behind [] y d = refl
 behind (x ∷ xs) y d = behind xs y d
 
+-- the length of two lists appended is the sum of their lengths
 grown : {A : Type 0} (xs ys : List A) → length (xs ++ ys) ≡ length xs + length ys
 grown [] ys = omega arith
 grown (x ∷ xs) ys = let h = grown xs ys in omega arith
@@ -65,6 +68,7 @@ did_still rises more did.Rest h = (h, refl)
 abbrev with_what : Brief → What → Event
 with_what b w = record { cpu = b.cpu; thread = b.thread; level = b.level; what = w }
 
+-- values appended to the stored rises leave each brief its values and the events as they were
 still : (bs : List Brief) (rises more : List Rises) → HasEach bs rises →
     HasEach bs (rises ++ more) × (events_in bs (rises ++ more) ≡ events_in bs rises)
 still [] rises more h = (h, refl)

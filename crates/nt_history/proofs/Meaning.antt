@@ -27,6 +27,7 @@ kept_again r (did.Gone t) = refl
 kept_again r (did.Free f l) = refl
 kept_again r did.Rest = refl
 
+-- what is read from a brief with given values has, if it is a look, these values
 has_own : (r : Rises) (d : Did) → HasValues r (what_of r d)
 has_own r (did.Look k) = refl
 has_own r (did.Call c y f) = _
@@ -71,8 +72,10 @@ pub is_event : (r : Rises) (b : Brief) (e : Event) → brief_of (noticed_of b.di
 is_event r b e h v =
     ap (event_of r) (sym h) ∙ ap (with_what e) (meant_again r (noticed_of b.did) e.what v)
 
+-- if an event is the one that a brief stands for, what is kept of the event is this brief
 pub was_brief : (r : Rises) (b : Brief) (e : Event) → event_of r b ≡ e → brief_of (noticed_of b.did) e ≡ b
 was_brief r b e h = ap (brief_of (noticed_of b.did)) (sym h) ∙ ap (with_did b) (kept_again r b.did)
 
+-- if an event is the one that a brief stands for with these values and it is a look, these are its values
 pub had_values : (r : Rises) (b : Brief) (e : Event) → event_of r b ≡ e → HasValues r e.what
 had_values r b e h = subst (λ (x : Event). HasValues r x.what) h (has_own r b.did)

@@ -20,6 +20,7 @@ same_at (x ∷ xs) (y ∷ ys) n h =
 abbrev zeros : ℕ → List ℕ
 zeros n = replicate n 0
 
+-- a list of n zeros has n elements
 zeros_long : (n : ℕ) → length (zeros n) ≡ n
 zeros_long n = length-replicate n _
 

@@ -17,6 +17,7 @@ abbrev pub Sames : (Fss : List (List Field)) → Each Bool Fss → Type 0
 Sames [] each = Unit {0}
 Sames (Fs ∷ Fss) each = Same each.0 × Sames Fss each.1
 
+-- values of one of several variants that are found equal are the same, if this is so for each variant
 by_same : (Fss : List (List Field)) (each : Each Bool Fss) → Sames Fss each → Same (by false false Fss each)
 by_same [] each s c d h = absurd c
 by_same (Fs ∷ Fss) each s (inl x) (inl y) h = ap inl (s.0 x y h)
@@ -24,17 +25,21 @@ by_same (Fs ∷ Fss) each s (inl x) (inr y) h = absurd cc
 by_same (Fs ∷ Fss) each s (inr x) (inl y) h = absurd cc
 by_same (Fs ∷ Fss) each s (inr x) (inr y) h = ap inr (by_same Fss each.1 s.1 x y h)
 
+-- enum values found equal are the same, if this is so for the fields of each variant
 pub enum_same : (N : Record) (each : Each Bool N.parts) → Sames N.parts each → Same (λ a b. by false false N.parts each (N.as_values a) (N.as_values b))
 enum_same N each s a b h = values_one N a b (by_same N.parts each s (N.as_values a) (N.as_values b) h)
 
 -- ---- fields
 
+-- two values of a variant without fields are the same
 pub none_same : Same (λ (x y : Unit {0}). true)
 none_same x y h = refl
 
+-- values of a variant with one field that are found equal are the same, if this is so for the field
 pub one_same : {A : Type 0} {f : A → A → Bool} → Same f → Same (λ (x y : A × Unit {0}). f x.0 y.0)
 one_same a x y h = ap (λ z. (z, tt)) (a x.0 y.0 h)
 
+-- values of a variant with two fields that are found equal are the same, if this is so for both fields
 pub two_same : {A B : Type 0} {f : A → A → Bool} {g : B → B → Bool} → Same f → Same g →
     Same (λ (x y : A × (B × Unit {0})). f x.0 y.0 && g x.1.0 y.1.0)
 two_same {A} {B} {f} {g} a b x y h =
@@ -43,6 +48,7 @@ two_same {A} {B} {f} {g} a b x y h =
     let q = b x.1.0 y.1.0 t.1 in
     λ i. (p i, (q i, tt))
 
+-- values of a variant with three fields that are found equal are the same, if this is so for each field
 pub three_same : {A B C : Type 0} {f : A → A → Bool} {g : B → B → Bool} {k : C → C → Bool} → Same f → Same g → Same k →
     Same (λ (x y : A × (B × (C × Unit {0}))). f x.0 y.0 && (g x.1.0 y.1.0 && k x.1.1.0 y.1.1.0))
 three_same {A} {B} {C} {f} {g} {k} a b c x y h =
@@ -53,15 +59,18 @@ three_same {A} {B} {C} {f} {g} {k} a b c x y h =
     let r = c x.1.1.0 y.1.1.0 u.1 in
     λ i. (p i, (q i, (r i, tt)))
 
+-- natural numbers that are found equal are the same
 pub nat_same : Same (λ (x y : ℕ). x == y)
 nat_same x y h = eqb-true x y h
 
+-- options that are found equal are the same, if this is so for their values
 pub option_same : {A : Type 0} {f : A → A → Bool} → Same f → Same (option_eq f)
 option_same a None None h = refl
 option_same a None (Some y) h = absurd cc
 option_same a (Some x) None h = absurd cc
 option_same a (Some x) (Some y) h = ap (λ z. Some z) (a x y h)
 
+-- a test of two truth values that fails where they differ finds only the same ones equal
 pub bool_same : (f : Bool → Bool → Bool) → f true false ≡ false → f false true ≡ false → Same f
 bool_same f a b true true h = refl
 bool_same f a b true false h = absurd (let k = a in cc)

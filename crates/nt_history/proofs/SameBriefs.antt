@@ -12,9 +12,11 @@ use Rattle.nt_history.specs.declared.brief.Brief.{Brief}
 use Rattle.nt_history.proofs.Same.{Same, enum_same, nat_same, none_same, one_same, option_same, three_same, two_same}
 use Rattle.nt_history.proofs.SameParts.{apc_same, begun_same, command_same, cpu_same, dpc_same, key_same, lock_same, reply_same, thread_same}
 
+-- what was noticed is the same if it is found equal
 noticed_same : Same noticed_eq.ghosts.eq
 noticed_same = enum_same noticed.enum _ (two_same nat_same nat_same, (one_same nat_same, tt))
 
+-- actions that are found equal are the same
 did_same : Same did_eq.ghosts.eq
 did_same = enum_same did.enum _ (
   three_same command_same reply_same nat_same,
@@ -48,6 +50,7 @@ did_same = enum_same did.enum _ (
   ),
 )
 
+-- briefs that are found equal are the same
 brief_same : Same brief_eq.ghosts.eq
 brief_same x y h =
     let a = both _ _ h in
@@ -59,8 +62,10 @@ brief_same x y h =
     let dids = did_same x.did y.did c.1 in
     λ i. record { cpu = cpus i; thread = threads i; level = levels i; did = dids i }
 
+-- a brief is found equal to itself
 brief_self : (b : Brief) → brief_eq.ghosts.eq b b ≡ true
 brief_self b = laws-law.refl b
 
+-- the equality test of briefs answers yes exactly if the two briefs are the same
 pub brief_test : (x y : Brief) (b : Bool) → b ≡ brief_eq.ghosts.eq x y → IsTrue b ↔ (x ≡ y)
 brief_test x y b h = (λ t. brief_same x y (sym h ∙ t), λ k. h ∙ subst (λ (z : Brief). brief_eq.ghosts.eq x z ≡ true) k (brief_self x))

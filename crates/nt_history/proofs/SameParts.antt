@@ -28,32 +28,41 @@ use Rattle.nt_history.proofs.Same.{Same, bool_same, enum_same, nat_same, none_sa
 
 -- ---- numbers
 
+-- processor numbers that are found equal are the same
 pub cpu_same : Same cpu_eq.ghosts.eq
 cpu_same x y h = ap cpu (eqb-true x.0 y.0 h)
 
+-- thread numbers that are found equal are the same
 pub thread_same : Same thread_eq.ghosts.eq
 thread_same x y h = ap thread (eqb-true x.0 y.0 h)
 
+-- DPC numbers that are found equal are the same
 pub dpc_same : Same dpc_eq.ghosts.eq
 dpc_same x y h = ap dpc (eqb-true x.0 y.0 h)
 
+-- APC numbers that are found equal are the same
 pub apc_same : Same apc_eq.ghosts.eq
 apc_same x y h = ap apc (eqb-true x.0 y.0 h)
 
+-- timer numbers that are found equal are the same
 pub timer_same : Same timer_eq.ghosts.eq
 timer_same x y h = ap timer (eqb-true x.0 y.0 h)
 
+-- spin lock numbers that are found equal are the same
 pub lock_same : Same lock_eq.ghosts.eq
 lock_same x y h = ap lock (eqb-true x.0 y.0 h)
 
 -- ---- commands and replies
 
+-- modes that are found equal are the same
 pub mode_same : Same mode_eq.ghosts.eq
 mode_same = same_true mode.the_type tt
 
+-- importances that are found equal are the same
 pub importance_same : Same importance_eq.ghosts.eq
 importance_same = same_true importance.the_type tt
 
+-- refusals that are found equal are the same
 pub refusal_same : Same refusal_eq.ghosts.eq
 refusal_same = same_true refusal.the_type tt
 
@@ -63,9 +72,11 @@ reply_same =
     enum_same reply.enum _
     (none_same, (none_same, (none_same, (one_same nat_same, (none_same, (none_same, (one_same refusal_same, tt)))))))
 
+-- timer keys that are found equal are the same
 pub key_same : Same key_eq.ghosts.eq
 key_same = enum_same key.enum _ (one_same timer_same, (one_same thread_same, tt))
 
+-- commands that are found equal are the same
 pub command_same : Same command_eq.ghosts.eq
 command_same = enum_same command.enum _ (
   one_same nat_same,
@@ -129,5 +140,6 @@ command_same = enum_same command.enum _ (
   ),
 )
 
+-- values that tell which routine began are the same if they are found equal
 pub begun_same : Same begun_eq.ghosts.eq
 begun_same = enum_same begun.enum _ (one_same nat_same, (one_same dpc_same, (one_same dpc_same, (one_same apc_same, tt))))

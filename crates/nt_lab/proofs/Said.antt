@@ -26,6 +26,7 @@ use Rattle.nt_lab.specs.Verdicts.{IsSaid, TellsOf, TellsOfAll}
 abbrev pub AreSaidTo : Script → Bool → List Expectation → List Verdict → ℕ → Type 0
 AreSaidTo s is_cut xs vs n = (j : ℕ) (d : Expectation) (v : Verdict) → j < n → IsSaid s is_cut (get_or xs j d) (get_or vs j v)
 
+-- if the first verdicts are right, and one more is right of the next expectation, all of them are
 pub one_more : (s : Script) (is_cut : Bool) (xs : List Expectation) (vs : List Verdict) (n : ℕ) (said : Verdict) → length vs ≡ n →
     AreSaidTo s is_cut xs vs n → ((d : Expectation) → IsSaid s is_cut (get_or xs n d) said) → AreSaidTo s is_cut xs (vs ++ said ∷ []) (n + 1)
 one_more s is_cut xs vs n said count are last j d v low = go (nat_lt j n) refl

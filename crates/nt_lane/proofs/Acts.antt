@@ -19,6 +19,7 @@ use Rattle.nt_lane.proofs.Moves.{moved}
 use Rattle.nt_lane.proofs.Passes.{listed_grows}
 
 module _ (s : Script) (st : Stand) (j : Job) (v w : View) where
+  -- an act done by a pass that could still draw moved its words and told values as a floor says
   pub act_done : (m : Marks) (a : Acted) (old new : List ℕ) → 1 ≤ drawable_of m v → IsDone s st j v w a → new
       ≡ table 16 (λ c. max (value_at old c) (value_at a.told.value c)) →
       (f : Found) × (told : Rises) × FoundBy s w a.number a.event st f × (IsActed s f st j (record a { told = told }) ×
@@ -26,8 +27,10 @@ module _ (s : Script) (st : Stand) (j : Job) (v w : View) where
   act_done m a old new room d e =
       (d.found, a.told, d.by, (d.acted, (moved m s a.number a.event st d.found v w room d.made, record { seen = e; known = d.told })))
 
+  -- if the lists of a pass list its events before an act that is done, they do after it
   pub done_listed : (a : Acted) → IsDone s st j v w a → AreListed v → AreListed w
   done_listed a d old = listed_made s w a.number a.event st d.found _ _ v old d.made d.by.on
 
+  -- if the lists of a pass list its events before an act that was refused, they do after it
   pub refused_listed : (r : ActRefusal) → IsNotDone s st j v w r → AreListed v → AreListed w
   refused_listed r n old = listed_grows v w n.learns.entries n.learns.grows old

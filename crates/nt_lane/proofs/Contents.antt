@@ -31,10 +31,12 @@ use Rattle.nt_lane.specs.Steps.{object_left, queue_left, spin_left}
 use Rattle.nt_lane.proofs.HeldTold.{object_is_told, queue_is_told, spin_is_told}
 
 module _ (h : HeldStates) where
+  -- the content of the lane of a held object before an event is the object's own state
   pub object_before : (d : DpcNo) (o : ObjectFacts) → IsTrue (has_dpc h.script d) → h.object ≡ Some o →
       content h.script (held_lanes h) (ObjectLane d) ≡ OfObject o.state
   object_before d o named is = ap OfObject (sym (object_is_told h d o named is))
 
+  -- the content of the lane of a held queue before an event is the queue's own state
   pub queue_before : (p : CpuNo) (q : QueueFacts) → IsTrue (has_cpu h.script p) → h.queue ≡ Some q →
       content h.script (held_lanes h) (QueueLane p) ≡ OfQueue q.state
   queue_before p q named is = ap OfQueue (sym (queue_is_told h p q named is))
@@ -49,6 +51,7 @@ module _ (h : HeldStates) where
   told_group : (g : GroupState) → h.group ≡ Some g → (held_lanes h).threads ≡ g.threads.facts
   told_group g is = ap (λ (o : Option GroupState). threads_told h.script o) is
 
+  -- the content of the threads lane of a held group before an event is the states of its processor's threads
   pub group_before : (p : CpuNo) (g : GroupState) → h.group ≡ Some g → g.cpu ≡ p → g.threads.script ≡ h.script →
       content h.script (held_lanes h) (ThreadsLane p) ≡ group_content g
   group_before p g is same script =
@@ -58,9 +61,11 @@ module _ (h : HeldStates) where
       λ i. threads_from (sym same i) 0 (sym script i).threads (with_threads g.threads) in
       ap OfThreads (facts ∙ named)
 
+  -- the content of the timers lane before an event is the timers that are held
   pub timers_before : (t : Timers) → h.timers ≡ Some t → content h.script (held_lanes h) TimersLane ≡ OfTimers t
   timers_before t is = ap (λ (o : Option Timers). OfTimers (timers_told h.script o)) is
 
+  -- the content of the lane of a held spin lock before an event is the lock's own state
   pub spin_before : (k : LockNo) (x : SpinFacts) → IsTrue (has_lock h.script k) → h.spin_lock ≡ Some x →
       content h.script (held_lanes h) (LockLane k) ≡ OfLock x.state
   spin_before k x named is = ap OfLock (sym (spin_is_told h k x named is))
@@ -70,6 +75,7 @@ module _ (h : HeldStates) (n : ℕ) (st : Stand) (e : Event) where
   abbrev after : Lanes
   after = lanes_after h.script n st e (held_lanes h)
 
+  -- the content of a held object's lane after an event is the state that the event leaves of the object
   pub object_then : (d : DpcNo) (o : ObjectFacts) → IsTrue (has_dpc h.script d) → h.object ≡ Some o → o.dpc ≡ d →
       content h.script after (ObjectLane d) ≡ OfObject (object_left n e o).state
   object_then d o named is same =
@@ -82,6 +88,7 @@ module _ (h : HeldStates) (n : ℕ) (st : Stand) (e : Event) where
       ap (λ (x : DpcNo). object_after x n e.cpu e.what o.state) (sym same) in
       ap OfObject (at ∙ (old ∙ number))
 
+  -- the content of a held queue's lane after an event is the state that the event leaves of the queue
   pub queue_then : (p : CpuNo) (q : QueueFacts) → IsTrue (has_cpu h.script p) → h.queue ≡ Some q → q.cpu ≡ p →
       content h.script after (QueueLane p) ≡ OfQueue (queue_left h.script n e (held_lanes h).objects q).state
   queue_then p q named is same =
@@ -95,6 +102,7 @@ module _ (h : HeldStates) (n : ℕ) (st : Stand) (e : Event) where
       ap (λ (x : CpuNo). queue_after h.script x n e.cpu e.what objects q.state) (sym same) in
       ap OfQueue (at ∙ (old ∙ number))
 
+  -- the content of a held group's threads lane after an event is the threads as the event leaves them
   pub group_then : (p : CpuNo) (g : GroupState) → h.group ≡ Some g → g.cpu ≡ p → g.threads.script ≡ h.script →
       content h.script after (ThreadsLane p) ≡ group_content (record g { threads = left n st e g.threads })
   group_then p g is same script =
@@ -108,9 +116,11 @@ module _ (h : HeldStates) (n : ℕ) (st : Stand) (e : Event) where
       λ i. threads_from (sym same i) 0 (sym script i).threads (with_threads (left n st e g.threads)) in
       ap OfThreads (facts ∙ named)
 
+  -- the content of the timers lane after an event is the held timers as the event leaves them
   pub timers_then : (t : Timers) → h.timers ≡ Some t → content h.script after TimersLane ≡ OfTimers (timers_after h.script n st e t)
   timers_then t is = ap (λ (o : Option Timers). OfTimers (timers_after h.script n st e (timers_told h.script o))) is
 
+  -- the content of a held spin lock's lane after an event is the state that the event leaves of the lock
   pub spin_then : (k : LockNo) (x : SpinFacts) → IsTrue (has_lock h.script k) → h.spin_lock ≡ Some x → x.lock ≡ k →
       content h.script after (LockLane k) ≡ OfLock (spin_left h.script e x).state
   spin_then k x named is same =

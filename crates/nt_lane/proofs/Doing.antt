@@ -40,13 +40,16 @@ use Rattle.nt_states.proofs.Requests.{as_raised}
 
 -- ---- after it was drawn and marked, the pass only learned
 
+-- an ask that a pass knows stays known to a pass that has reached at least as far in each word
 one_later : (n : ℕ) (v w : View) (a : Ask) → ((u : ℕ) → reach u v ≤ reach u w) → IsAskKnown n v a → IsAskKnown n w a
 one_later n v w a le h = let b = le (request_word a.cpu a.class) in omega (arith, h, b)
 
+-- asks that a pass knows all stay known to a pass that has reached at least as far in each word
 asked_later : (n : ℕ) (v w : View) (asks : List Ask) → ((u : ℕ) → reach u v ≤ reach u w) → All (IsAskKnown n v) asks →
     All (IsAskKnown n w) asks
 asked_later n v w asks le h = λ k d l. one_later n v w (get_or asks k d) le (h k d l)
 
+-- a pass that made an event and then learned more has made the event
 pub made_before : (n : ℕ) (e : Event) (lanes : List ℕ) (asks : List Ask) (u v w : View) → HasMade n e lanes asks u v → Learns v w →
     HasMade n e lanes asks u w
 made_before n e lanes asks u v w h l = record {
@@ -62,6 +65,7 @@ made_before n e lanes asks u v w h l = record {
 
 -- ---- told values
 
+-- the greatest value told of several lanes is at most a bound of the value told of each
 over_below : (told : Told) (lanes : List Lane) (p : CpuNo) (c v : ℕ) → ((x : Lane) → told x p c ≤ v) → told_over told lanes p c ≤ v
 over_below told [] p c v h = omega arith
 over_below told (x ∷ lanes) p c v h =
@@ -69,11 +73,13 @@ over_below told (x ∷ lanes) p c v h =
     let rest : told_over told lanes p c ≤ v = over_below told lanes p c v h in
     omega (arith, here, rest)
 
+-- what one held lane that a pass knows tells of requests is at most what the pass has reached
 one_below : {A : Type 0} (o : Option (Kept A)) (v : View) (p : CpuNo) (c : ℕ) → IfSome o (λ k. IsKnownBy k.log v) →
     (told_at (told_of o) p c ≤ reach (request_word p c) v) × (told_at (told_of o) p c ≤ reach step_word v)
 one_below None v p c h = (omega arith, omega arith)
 one_below (Some k) v p c h = h.tells p c
 
+-- what each of the held lanes that a pass knows tells of requests is at most what the pass has reached
 each_below : (h : HeldLanes) (v : View) → AreKnownBy h v → (p : CpuNo) (c : ℕ) (x : Lane) →
     (told_in h x p c ≤ reach (request_word p c) v) × (told_in h x p c ≤ reach step_word v)
 each_below h v k p c (ObjectLane d) = one_below h.object v p c k.object
@@ -82,6 +88,7 @@ each_below h v k p c (ThreadsLane q) = one_below h.group v p c k.group
 each_below h v k p c TimersLane = one_below h.timers v p c k.timers
 each_below h v k p c (LockLane x) = one_below h.spin_lock v p c k.spin_lock
 
+-- a word that is at least the old value and above the number of an ask is at least the raised value
 raised_below : (b : Bool) (n old word value : ℕ) → old ≤ word → (b ≡ true → n + 1 ≤ word) → value ≡ raised b n old → value ≤ word
 raised_below true n old word value h k e = let a = k refl in omega (arith, a, e)
 raised_below false n old word value h k e = omega (arith, h, e)
@@ -89,6 +96,7 @@ raised_below false n old word value h k e = omega (arith, h, e)
 module _ (s : Script) (h : HeldLanes) (st : Stand) (p : Plan) (n : ℕ) (over value : List ℕ)
     (told : over ≡ table 16 (λ c. told_over (told_in h) p.lanes st.cpu c))
     (own : value ≡ table 16 (λ c. if list_any (is_ask st.cpu c) p.asks then n + 1 else value_at over c)) where
+  -- the value told of a class is what the lanes tell of it, or the event's number plus one if the event asks it
   pub value_is : (c : ℕ) → c < 16 → value_at value c ≡ raised (list_any (is_ask st.cpu c) p.asks) n (told_over (told_in h) p.lanes st.cpu c)
   value_is c l =
       ap (λ (xs : List ℕ). value_at xs c) own
@@ -97,6 +105,7 @@ module _ (s : Script) (h : HeldLanes) (st : Stand) (p : Plan) (n : ℕ) (over va
       ∙ ap (λ (k : ℕ). raised (list_any (is_ask st.cpu c) p.asks) n k)
       (ap (λ (xs : List ℕ). value_at xs c) told ∙ get_or-table 16 c (λ k. told_over (told_in h) p.lanes st.cpu k) 0 l)))
 
+  -- each value told of the event's own processor is known of its request word and of the step word
   pub value_below : (v w : View) → AreKnownBy h v → ((u : ℕ) → reach u v ≤ reach u w) → n + 1 ≤ reach step_word w →
       All (IsAskKnown n w) p.asks → (c : ℕ) → c < 16 →
       (value_at value c ≤ reach (request_word st.cpu c) w) × (value_at value c ≤ reach step_word w)
@@ -115,6 +124,7 @@ module _ (s : Script) (h : HeldLanes) (st : Stand) (p : Plan) (n : ℕ) (over va
 
 -- ---- the whole
 
+-- the states of held lanes have one thread state for each thread of the script
 threads_long : (s : Script) (h : HeldLanes) → AreLanes s h → length (held_lanes (states_of s h)).threads ≡ length s.threads
 threads_long s h there = go h.group there.group
   where
@@ -123,6 +133,7 @@ threads_long s h there = go h.group there.group
     go None k = length-replicate (length s.threads) _
     go (Some g) k = k.fits.count
 
+-- an event that was planned, drawn, marked and noted on all its lanes is done
 pub is_done : (s : Script) (h : HeldLanes) (st : Stand) (j : Job) (p : Plan) (n : ℕ) (numbers over value : List ℕ) (u v w : View) → AreLanes s h →
     AreKnownBy h u → IsPlan (states_of s h) st j p → numbers ≡ map (lane_number s) p.lanes → n + 1 < 2 ^ 64 → HasMade n p.event numbers p.asks u v →
     Learns v w → AreLeftBy s n st p.event p.lanes p.asks h w → over ≡ table 16 (λ c. told_over (told_in h) p.lanes st.cpu c) →

@@ -20,6 +20,7 @@ still_reached n e lanes u v =
     greatest_append u v.reached (reached_at step_word (n + 1) ∷ []) in
     omega (arith, g)
 
+-- a pass that drew the number of an event and marked its asks has made the event
 drawn_marked : (n : ℕ) (e : Event) (lanes : List ℕ) (asks : List Ask) (v w : View) → AreMarked n asks (drawn v n e lanes) w → reach step_word v ≤ n →
     n + 1 ≤ reach step_word w → HasMade n e lanes asks v w
 drawn_marked n e lanes asks v w m from to = record {
@@ -33,6 +34,7 @@ drawn_marked n e lanes asks v w m from to = record {
   grows = grows_by v w m.parts (entry n e lanes ∷ []) m.entries [] (m.known ∙ sym (append-nil v.known)) [] (m.prefixes ∙ sym (append-nil v.prefixes));
 }
 
+-- a pass that drew an event and then marked it for its asks has made the event
 pub has_made : (n : ℕ) (e : Event) (given lanes : List ℕ) (named asks : List Ask) (v d w : View) → given ≡ lanes → named ≡ asks → d ≡ drawn v n e given →
     AreMarked n named d w → reach step_word v ≤ n → n + 1 ≤ reach step_word w → HasMade n e lanes asks v w
 has_made n e given lanes named asks v d w gl na is m from to =
@@ -40,6 +42,7 @@ has_made n e given lanes named asks v d w gl na is m from to =
     let b : AreMarked n named (drawn v n e lanes) w = subst (λ (xs : List ℕ). AreMarked n named (drawn v n e xs) w) gl a in
     drawn_marked n e lanes asks v w (subst (λ (xs : List Ask). AreMarked n xs (drawn v n e lanes) w) na b) from to
 
+-- a pass that made an event has the event's entry
 pub made_contains : (n : ℕ) (e : Event) (lanes : List ℕ) (asks : List Ask) (v w : View) → HasMade n e lanes asks v w → Contains w.entries (entry n e lanes)
 made_contains n e lanes asks v w h =
     let x : Entry = entry n e lanes in

@@ -29,6 +29,7 @@ use Rattle.nt_states.proofs.Requests.{all_head, all_tail}
 
 -- ---- an object alone
 
+-- a change that only sets a DPC object may be made with that object alone
 sets : (s : Script) (o : ObjectFacts) (c : Change) → Sets s o.dpc c → MayChangeObject o c
 sets s o (SetImportance d i) h = h
 sets s o (SetTarget d t) h = h.0
@@ -39,6 +40,7 @@ sets s o (Take part d) h = absurd h
 sets s o Rest h = absurd h
 sets s o Run h = absurd h
 
+-- a DPC object of the script is one still after a change that sets it
 set_there : (s : Script) (o : ObjectFacts) (c : Change) → Sets s o.dpc c → IsObjectThere s o → IsObjectThere s (object_set c o)
 set_there s o (SetImportance d i) h t = record { named = t.named; part = t.part; target = t.target; standing = t.standing }
 set_there s o (SetTarget d q) h t = record { named = t.named; part = t.part; target = h.1; standing = t.standing }
@@ -49,6 +51,7 @@ set_there s o (Take part d) h t = absurd h
 set_there s o Rest h t = absurd h
 set_there s o Run h t = absurd h
 
+-- if the event's change sets just the held object, the object may leave the event
 pub object_may : (s : Script) (n : ℕ) (e : Event) (o : ObjectFacts) → Sets s o.dpc (change_of e.what) → IsObjectThere s o → MayLeaveObject s n e o
 object_may s n e o h t =
     let may = sets s o (change_of e.what) h in
@@ -59,6 +62,7 @@ object_may s n e o h t =
 
 -- ---- a queue alone
 
+-- a queue of the script is one still after its processor rests or runs
 rest_there : (s : Script) (q : QueueFacts) (c : Change) → MayChangeQueue c → IsQueueThere s q → IsQueueThere s (queue_idle c q)
 rest_there s q Rest h t = record { named = t.named; count = t.count; limit = t.limit; entries = t.entries }
 rest_there s q Run h t = record { named = t.named; count = t.count; limit = t.limit; entries = t.entries }
@@ -69,6 +73,7 @@ rest_there s q (Take part d) h t = absurd h
 rest_there s q (SetImportance d i) h t = absurd h
 rest_there s q (SetTarget d x) h t = absurd h
 
+-- if the event may change the queue alone, the queue of the event's own processor may leave it
 pub queue_may : (s : Script) (n : ℕ) (e : Event) (q : QueueFacts) → MayChangeQueue (change_of e.what) → q.cpu ≡ e.cpu → IsQueueThere s q →
     MayLeaveQueue s n e q
 queue_may s n e q h own t = record {
@@ -80,6 +85,7 @@ queue_may s n e q h own t = record {
 
 -- ---- both
 
+-- what holds of all of a list holds of all that a test keeps of it
 all_filter : {A : Type 0} (P : A → Type 0) (f : A → Bool) (xs : List A) → All P xs → All P (filter f xs)
 all_filter P f [] h = All-nil P
 all_filter {A} P f (x ∷ xs) h = go (all_filter P f xs (all_tail P x xs h)) (f x) refl
@@ -88,10 +94,12 @@ all_filter {A} P f (x ∷ xs) h = go (all_filter P f xs (all_tail P x xs h)) (f 
     go rest true e = rw e (All-cons P x (filter f xs) (all_head P x xs h) rest)
     go rest false e = rw e rest
 
+-- a DPC object that stands nowhere stands in no queue that may be changed
 nowhere : (x : Option Standing) (p : CpuNo) → is_some x ≡ false → is_queue (option_map (λ at. at.queue) x) p ≡ false
 nowhere None p h = refl
 nowhere (Some y) p h = cc
 
+-- an object whose standing names a queue stands in it, if the queue holds an entry of it exactly then
 stands_here : (q : QueueFacts) (d : DpcNo) (x : Option Standing) (z : Standing) → x ≡ Some z → z.queue ≡ q.cpu →
     holds_dpc d q.state.pending ≡ is_queue (option_map (λ at. at.queue) x) q.cpu → StandsHere q d x
 stands_here q d None z e h k = cc
@@ -99,6 +107,7 @@ stands_here q d (Some y) z e h k =
     let same : y.queue ≡ q.cpu = ap (λ (o : Option Standing). unwrap_or (option_map (λ (at : Standing). at.queue) o) q.cpu) e ∙ h in
     (same, k ∙ eq-eqb y.queue.0 q.cpu.0 (ap (λ (p : CpuNo). p.0) same))
 
+-- the DPC of an optional entry is the first part of its DPC and number
 first_of : (o : Option InsertEntry) (d : DpcNo) → option_map (λ (i : InsertEntry). i.dpc) o ≡ Some d →
     option_map (λ (x : DpcNo × ℕ). x.0) (option_map (λ (i : InsertEntry). (i.dpc, i.number)) o) ≡ Some d
 first_of None d h = h
@@ -166,6 +175,7 @@ module _ (s : Script) (l : Lanes) (by : CpuNo) (o : ObjectFacts) (q : QueueFacts
   moved_queue n Rest h = absurd h
   moved_queue n Run h = absurd h
 
+  -- a held object and queue that agree may both leave an event that moves the object into or out of the queue
   pub both_may : (n : ℕ) (e : Event) → by ≡ e.cpu → Moves l by o.dpc q.cpu (change_of e.what) → MayLeaveBoth s n e o q
   both_may n e same h =
       let may : MayChangeBoth o q e.cpu (change_of e.what) = subst (λ (p : CpuNo). MayChangeBoth o q p (change_of e.what)) same (moves (change_of e.what) h) in

@@ -47,6 +47,7 @@ module _ (s : Script) (h : HeldLanes) (x : Lane) (r : LaneRecord) (told : (q : C
     told = λ q c a b. told q c ∙ sym (ap (λ (l : LaneState). told_at l.told q c) last.last);
   }
 
+  -- a lane whose list the pass knows, and no longer one, shows the pass the state that the held lanes tell of it
   pub shown_on : (now : Content) (v : View) → IsLastNoted s x now r → content s (held_lanes (states_of s h)) x ≡ now → IsKnownBy r v →
       IsLongest r.lane r.notes v → IsShownOn s v (found_in s h) x
   shown_on now v last before known longest =
@@ -79,6 +80,7 @@ module _ (s : Script) (h : HeldLanes) (x : Lane) (r : LaneRecord) (told : (q : C
 -- ---- an object and a queue
 
 module _ (s : Script) (n : ℕ) (e : Event) (asks : List Ask) (v : View) (lanes : List Lane) where
+  -- if the dpc lanes left an event that touches the held object, the pass knows the object's list with its note
   pub left_object : (k : Kept ObjectFacts) (q : Option (Kept QueueFacts)) → is_among (object_name k) lanes ≡ true →
       DpcsLeft s n e asks v (is_among (object_name k) lanes) (is_touched (in_each q queue_name) lanes) (Some k) q → LeavesObject s n e asks k v
   left_object k None t l = subst (λ (b : Bool). DpcsLeft s n e asks v b false (Some k) None) t l
@@ -89,6 +91,7 @@ module _ (s : Script) (n : ℕ) (e : Event) (asks : List Ask) (v : View) (lanes 
       go true z = z.0
       go false z = z
 
+  -- if the dpc lanes left an event that touches the held queue, the pass knows the queue's list with its note
   pub left_queue : (o : Option (Kept ObjectFacts)) (k : Kept QueueFacts) → is_among (queue_name k) lanes ≡ true →
       DpcsLeft s n e asks v (is_touched (in_each o object_name) lanes) (is_among (queue_name k) lanes) o (Some k) →
       LeavesQueue s n e (objects_told s o) asks k v
@@ -102,6 +105,7 @@ module _ (s : Script) (n : ℕ) (e : Event) (asks : List Ask) (v : View) (lanes 
 
 -- ---- every lane that is held
 
+-- a lane is the same as itself
 same_refl : (x : Lane) → same_lane x x ≡ true
 same_refl (ObjectLane d) = eq-eqb d.0 d.0 refl
 same_refl (QueueLane p) = eq-eqb p.0 p.0 refl
@@ -109,6 +113,7 @@ same_refl (ThreadsLane p) = eq-eqb p.0 p.0 refl
 same_refl TimersLane = refl
 same_refl (LockLane k) = eq-eqb k.0 k.0 refl
 
+-- a disjunction of three is true if its middle part is
 or_true : (b c d : Bool) → c ≡ true → (b || (c || d)) ≡ true
 or_true true c d h = refl
 or_true false c d h = rw h refl
@@ -118,6 +123,7 @@ among_them : (x : Lane) (past xs : List Lane) → is_among x (past ++ x ∷ xs) 
 among_them x past xs =
     list_any-append (same_lane x) past (x ∷ xs) ∙ or_true (list_any (same_lane x) past) (same_lane x x) (list_any (same_lane x) xs) (same_refl x)
 
+-- what holds of an option if it is there holds of the value that it has
 of_some : {A : Type 0} (P : A → Type 0) (o : Option A) (k : A) → o ≡ Some k → IfSome o P → P k
 of_some {A} P o k e h = let z : IfSome (Some k) P = subst (λ (y : Option A). IfSome y P) e h in z
 
@@ -127,6 +133,7 @@ pub one_held : {A B C : Type 0} (f : A → B) (name : B → C) (c : C) (o : Opti
 one_held f name c None h = absurd (false≢true h.0)
 one_held f name c (Some k) h = (k, refl, h.1)
 
+-- if mapping an option gives a value, the option holds one
 pub any_held : {A B : Type 0} (f : A → B) (o : Option A) → IsSome (in_each o f) → (k : A) × (o ≡ Some k)
 any_held f None h = absurd (false≢true h)
 any_held f (Some k) h = (k, refl)
@@ -185,6 +192,7 @@ module _ (s : Script) (h : HeldLanes) (there : AreLanes s h) where
       (of_some (λ (k : Kept SpinFacts). IsKnownBy k.log v) h.spin_lock k o.1 known.spin_lock)
       (of_some (λ (k : Kept SpinFacts). IsLongest k.log.lane k.log.notes v) h.spin_lock k o.1 longest.spin_lock))
 
+  -- if the pass knows all held lanes and no longer list of any, each held lane of a list shows it the found state
   pub all_shown : (v : View) → AreKnownBy h v → AreLongest h v → (xs : List Lane) → AreHeld (IsHeld states) xs → AreShownOn s v (found_in s h) xs
   all_shown v known longest [] held = tt
   all_shown v known longest (x ∷ xs) held = (each_shown v known longest x held.0, all_shown v known longest xs held.1)

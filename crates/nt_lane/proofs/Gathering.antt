@@ -6,6 +6,7 @@ use Rattle.nt_lane_record.specs.declared.piece.Piece.{Piece}
 use Rattle.nt_lane_record.specs.Pieces.{IsPieceOf}
 use Rattle.nt_lane.specs.Pieces.{ArePiecesOf}
 
+-- pieces of keepers, and one piece more of one keeper more, are pieces of all these keepers
 pub pieces_more : (t : TableId) (ps : List Piece) (ks : List Keeper) (p : Piece) (k : Keeper) → ArePiecesOf t ps ks → IsPieceOf t p k →
     ArePiecesOf t (ps ++ p ∷ []) (ks ++ k ∷ [])
 pieces_more t [] [] p k h i = (i, tt)

@@ -29,21 +29,25 @@ use Rattle.nt_lane.specs.Answers.{AreThere, BothAgree, HeldStates, held_lanes, t
 
 -- ---- the objects and processors that they name are the script's
 
+-- the named processor, or the own one where none is named, is a processor of the script
 pub named_for : (s : Script) (o : Option CpuNo) (by : CpuNo) → IfSome o (λ p. IsTrue (has_cpu s p)) → IsTrue (has_cpu s by) →
     IsTrue (has_cpu s (unwrap_or o by))
 named_for s None by h k = k
 named_for s (Some p) by h k = h
 
+-- the queue of the place where an object stands is of a processor of the script
 pub standing_named : (s : Script) (o : Option Standing) (r : Option CpuNo) → r ≡ option_map (λ at. at.queue) o →
     IfSome o (λ at. IsTrue (has_cpu s at.queue)) → IfSome r (λ p. IsTrue (has_cpu s p))
 standing_named s None r e h = rw e tt
 standing_named s (Some at) r e h = rw e h
 
+-- what holds of all inserts of a list holds of each that stands in it
 stands_all : (P : Insert → Type 0) (x : Insert) (xs : List Insert) → All P xs → Stands x xs → P x
 stands_all P x [] h at = absurd at
 stands_all P x (y ∷ ys) h (inl same) = subst P (sym same) (h 0 y (omega arith))
 stands_all P x (y ∷ ys) h (inr at) = stands_all P x ys (λ k d l. h (suc k) d (omega arith)) at
 
+-- the first pending entry of a part names an object of the script if all entries do
 pub first_named : (s : Script) (part : Part) (xs : List Insert) (r : Option (DpcNo × ℕ)) → All (λ x. IsTrue (has_dpc s x.dpc)) xs →
     r ≡ option_map (λ i. (i.dpc, i.number)) (first_dpc part xs) → IfSome r (λ y. IsTrue (has_dpc s y.0))
 first_named s part xs r h e = rw e (go (first_dpc part xs) refl)
@@ -55,13 +59,16 @@ first_named s part xs r h e = rw e (go (first_dpc part xs) refl)
 
 -- ---- an insert of the held object into the held queue
 
+-- a DPC object that stands nowhere stands in no queue that is held
 nowhere : (x : Option Standing) (p : CpuNo) → is_some x ≡ false → is_queue (option_map (λ at. at.queue) x) p ≡ false
 nowhere None p h = refl
 nowhere (Some y) p h = cc
 
+-- an object may be inserted into the queue that it goes to if both agree on whether it stands there
 pub may_insert : (o : ObjectFacts) (q : QueueFacts) (by : CpuNo) → BothAgree (Some o) (Some q) → queue_for o.state.target by ≡ q.cpu → MayInsert q o by
 may_insert o q by agree to = λ free. (to, agree ∙ nowhere o.state.standing q.cpu free)
 
+-- an insert of a held object that is not queued asks just for the class that the held queue gives it
 pub held_asks : (h : HeldStates) (d : DpcNo) (by p : CpuNo) (o : ObjectFacts) (q : QueueFacts) (class : Option ℕ) →
     is_queued (object_at (held_lanes h) d) ≡ false → p ≡ queue_for (object_at (held_lanes h) d).target by → o.dpc ≡ d → o.state ≡ object_at (held_lanes h) d →
     o.part ≡ part_of h.script o.dpc → q.state ≡ queue_at (held_lanes h) p → q.cpu ≡ p → q.limit ≡ depth_limit h.script → class ≡ asked_class q o by →
@@ -78,6 +85,7 @@ held_asks h d by p o q class free to od os op qs qc limit e =
     at_d ∙ (main ∙ (ap (λ (x : CpuNo). asks_on x (asked_class q o by)) (qc ∙ to)
     ∙ ap (asks_on (queue_for (object_at (held_lanes h) d).target by)) (sym e)))
 
+-- a class that an insert asks for is below sixteen
 pub asked_below : (q : QueueFacts) (o : ObjectFacts) (by : CpuNo) (class : Option ℕ) → class ≡ asked_class q o by → IfSome class (λ c. c < 16)
 asked_below q o by class e = rw e (go (is_queued o.state) o.part (asks_dispatch q o by))
   where
@@ -89,6 +97,7 @@ asked_below q o by class e = rw e (go (is_queued o.state) o.part (asks_dispatch 
 
 -- ---- the timers
 
+-- the held lanes that are there, the timers among them, are a sound state of all lanes of the script
 pub sound_held : (h : HeldStates) → AreThere h → IsSome h.timers → IsSound (record { script = h.script; lanes = held_lanes h })
 sound_held h a k = record { script = a.script; timers = go h.timers k a.timers }
   where

@@ -10,6 +10,7 @@ use Rattle.nt_event.specs.Acts.{StandFits, job_fits}
 use Rattle.nt_states.specs.Given.{CanDecide, JobStands, RunsOwn}
 use Rattle.nt_lane.specs.Standing.{StandsFor}
 
+-- a job that may be done where its processor stands has the thread and the wait that it needs there
 job_stands : (st : Stand) (j : Job) → StandsFor st j → JobStands st j
 job_stands st (job.Call c) h = h.1
 job_stands st (job.Fire d) h = tt
@@ -26,6 +27,7 @@ job_stands st job.UserEnd h = tt
 job_stands st job.Leave h = tt
 job_stands st job.Rundown h = h
 
+-- a job that fits the script and may be done where its processor stands can be decided there
 pub can_decide : (s : Script) (st : Stand) (j : Job) → IsTrue (job_fits s j) → StandFits s st → RunsOwn s st → StandsFor st j → CanDecide s st j
 can_decide s st j h k own stands = record { job = h; stand = k; own = own; stands = job_stands st j stands }
 
@@ -34,6 +36,7 @@ abbrev pub Leaves : Lanes → Stand → Job → Type 0
 Leaves l st job.Rundown = IfSome st.thread (λ t. (facts_at l t).leaving ≡ true)
 Leaves l st j = Unit {0}
 
+-- a job that its stand serves is allowed in states in which the thread of a rundown leaves
 pub is_allowed : (l : Lanes) (st : Stand) (j : Job) → StandsFor st j → Leaves l st j → IsAllowed l st j
 is_allowed l st (job.Call c) h k = h
 is_allowed l st (job.Fire d) h k = tt

@@ -9,6 +9,7 @@ use Rattle.nt_lane_record.specs.Records.{LaneRecord}
 use Rattle.nt_lane_record.specs.Passes.{Learns}
 use Rattle.nt_lane.proofs.Retries.{learns_through}
 
+-- what a pass knows of a lane's record stays known if the pass only learns
 known_later : (r : LaneRecord) (v w : View) → Learns v w → IsKnownBy r v → IsKnownBy r w
 known_later r v w l k = record {
   known = (let a = l.least step_word in let b = k.known in omega (arith, a, b));
@@ -18,6 +19,7 @@ known_later r v w l k = record {
   knows = (let q = k.knows in (q.0, l.grows.prefixes q.0 q.1, q.2, q.3));
 }
 
+-- what a pass knows of an optional held lane stays known if the pass only learns
 each_later : {A : Type 0} (o : Option (Kept A)) (v w : View) → Learns v w → IfSome o (λ k. IsKnownBy k.log v) → IfSome o (λ k. IsKnownBy k.log w)
 each_later None v w l h = tt
 each_later (Some k) v w l h = known_later k.log v w l h

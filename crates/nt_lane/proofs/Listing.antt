@@ -18,6 +18,7 @@ use Rattle.nt_lane.specs.Seats.{AreFoundOn, AreListed, IsFoundOn, IsListedOn}
 use Rattle.nt_lane.specs.Tries.{HasMade}
 use Rattle.nt_lane_record.proofs.Tying.{here}
 
+-- an element of a list is its first or is in the rest
 contains_cases : {A : Type 0} (y : A) (ys : List A) (x : A) → Contains (y ∷ ys) x → (y ≡ x) ⊎ Contains ys x
 contains_cases {A} y ys x h = go h.0 h.1 h.2
   where
@@ -46,6 +47,7 @@ module _ (s : Script) (w : View) (n : ℕ) (e : Event) (st : Stand) (f : Found) 
       go rest (inl a) = subst (λ (m : ℕ). IsListedOn w n m) a (listed_one x h.0)
       go rest (inr a) = rest a
 
+  -- if a pass knows the event that it made on each lane touched, all its events are still listed
   pub listed_made : (xs : List Lane) (asks : List Ask) (v : View) → AreListed v → HasMade n e (map (lane_number s) xs) asks v w →
       AreFoundOn s w n e st f xs → AreListed w
   listed_made xs asks v old made found x i lane k =

@@ -12,6 +12,7 @@ use Rattle.nt_states.specs.LaneLists.{as_asks}
 use Rattle.nt_lane.specs.Marked.{AreMarked, mark_for, marked_all}
 use Rattle.nt_lane_record.specs.Records.{IsAskKnown}
 
+-- marking an event for each of its asks in turn gives a pass that marked just them
 pub marked_is : (n : ℕ) (asks : List Ask) (v : View) → AreMarked n asks v (marked_all n asks v)
 marked_is n [] v = record {
   parts = refl;

@@ -26,24 +26,29 @@ use Rattle.nt_lane.specs.Tries.{HasMade}
 use Rattle.nt_lane.specs.Views.{drawable_of, draw_told, is_mark, lists_of, look_told, mark_told, words_of}
 use Rattle.nt_states.proofs.Requests.{all_head, all_tail, is_ask_true}
 
+-- anything follows from false being equal to true
 no_bool : {A : Type 0} → false ≡ true → A
 no_bool h = cc
 
 -- ---- marks
 
+-- or-ing a conjunction with false changes nothing
 or_off : (b e : Bool) → b ≡ (b || (e && false))
 or_off true e = refl
 or_off false true = refl
 or_off false false = refl
 
+-- a conjunction distributes over a disjunction
 spread : (e x y : Bool) → ((e && x) || (e && y)) ≡ (e && (x || y))
 spread true x y = refl
 spread false x y = refl
 
+-- a conjunction with false is false
 none : (e : Bool) → false ≡ (e && false)
 none true = refl
 none false = refl
 
+-- the equality test of numbers is the same in both orders
 same_eqb : (m n : ℕ) → (m == n) ≡ (n == m)
 same_eqb m n = grind arith
 
@@ -54,6 +59,7 @@ marks_of k n q c (a ∷ asks) =
     ap (λ (b : Bool). b || list_any (is_mark k q c) (map (mark_for n) asks)) (ap (λ (e : Bool). e && is_ask q c a) (same_eqb n k))
     ∙ (ap (λ (b : Bool). ((k == n) && is_ask q c a) || b) (marks_of k n q c asks) ∙ spread (k == n) (is_ask q c a) (list_any (is_ask q c) asks))
 
+-- with the marks of an event's asks added, a mark is there if it was or if an ask of that event is for it
 marked_more : (k n : ℕ) (q : CpuNo) (c : ℕ) (asks : List Ask) (old new : List Mark) → new ≡ old ++ map (mark_for n) asks →
     list_any (is_mark k q c) new ≡ (list_any (is_mark k q c) old || ((k == n) && list_any (is_ask q c) asks))
 marked_more k n q c asks old new e =
@@ -77,14 +83,17 @@ asked_known n w q c (a ∷ asks) h e = go (asked_known n w q c asks (all_tail (I
 
 -- ---- lists
 
+-- the mark that words tell of an ask of the event of number n
 told_for : ℕ → Ask → MarkTold
 told_for n a = record { cpu = a.cpu; class = a.class; number = n }
 
+-- the marks of an event's asks are told as the marks that words tell of its asks
 marks_told : (n : ℕ) (asks : List Ask) → map mark_told (map (mark_for n) asks) ≡ map (told_for n) asks
 unfolding told_for
 marks_told n [] = refl
 marks_told n (a ∷ asks) = ap (λ (ms : List MarkTold). told_for n a ∷ ms) (marks_told n asks)
 
+-- the lists that words tell after the marks of an event have those of its asks at the end
 with_each : (n : ℕ) (asks : List Ask) (l : Lists) → with_marks n asks (Some l) ≡ Some (record l { marks = l.marks ++ map (told_for n) asks })
 unfolding told_for
 with_each n [] l = ap (λ (ms : List MarkTold). Some (record l { marks = ms })) (sym (append-nil l.marks))
@@ -92,6 +101,7 @@ with_each n (a ∷ asks) l =
     with_each n asks (record l { marks = l.marks ++ told_for n a ∷ [] })
     ∙ ap (λ (ms : List MarkTold). Some (record l { marks = ms })) (append_assoc l.marks (told_for n a ∷ []) (map (told_for n) asks))
 
+-- the lists that words tell of a pass that made an event are those with its draw and its marks
 lists_made : (n : ℕ) (e : Event) (lanes : List ℕ) (asks : List Ask) (v w : View) → HasMade n e lanes asks v w →
     Some (lists_of w) ≡ with_marks n asks (with_draw n e lanes (Some (lists_of v)))
 lists_made n e lanes asks v w h =
@@ -115,6 +125,7 @@ lists_made n e lanes asks v w h =
 
 -- ---- an event that was made
 
+-- a pass that could still draw and made an event moved, as words see it, as that event says
 pub moved : (m : Marks) (s : Script) (n : ℕ) (e : Event) (st : Stand) (f : Found) (v w : View) → 1 ≤ drawable_of m v →
     HasMade n e (map (lane_number s) (what_lanes s st e.what f.lanes)) (what_asks s st e.what f.lanes) v w →
     IsMoved s n e st f (words_of m v) (words_of m w)

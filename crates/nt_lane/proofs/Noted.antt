@@ -44,6 +44,7 @@ module _ (s : Script) (n : ℕ) (asks : List Ask) (next : Content) (r t : LaneRe
   pub next_noted : next_of t.notes ≡ n + 1
   next_noted = ap next_of noted.notes ∙ next_more r.notes (note_left s n asks next r)
 
+  -- the time of a noted lane is as far as the events up to its last note may have let it advance
   pub time_noted : (time : ℕ) → time ≤ n * 2 ^ 32 + (2 ^ 32 - 1) → time ≤ next_of t.notes * 2 ^ 32
   time_noted time h = rw next_noted (omega (arith, h))
 
@@ -69,14 +70,17 @@ group_there s n st e g h = record {
 pub time_before : (time next n : ℕ) → time ≤ next * 2 ^ 32 → next ≤ n → time ≤ n * 2 ^ 32
 time_before time next n h k = omega (arith, h, k)
 
+-- a time that an event moves on by less than 2^32 stays within the bound of the events up to it
 pub time_left : (n old new : ℕ) → old ≤ n * 2 ^ 32 → new ≤ old + (2 ^ 32 - 1) → new ≤ n * 2 ^ 32 + (2 ^ 32 - 1)
 time_left n old new h k = omega (arith, h, k)
 
+-- before an event of an allowed number the time can go on by 2^32 and stay within 2^50
 pub time_below : (n old : ℕ) → old ≤ n * 2 ^ 32 → n < EVENTS → old + 2 ^ 32 ≤ 2 ^ 50
 time_below n old h k = omega (arith, h, k)
 
 -- ---- the steps
 
+-- when a lane notes an event, asks known before stay known to a pass that reaches as far in each word
 asks_later : (n : ℕ) (v w : View) (asks : List Ask) → ((u : ℕ) → reach u v ≤ reach u w) → All (IsAskKnown n v) asks → All (IsAskKnown n w) asks
 asks_later n v w asks le h = λ k d l. let a = h k d l in let b = le (request_word (get_or asks k d).cpu (get_or asks k d).class) in omega (arith, a, b)
 

@@ -56,6 +56,7 @@ use Rattle.nt_lane_record.proofs.Tying.{here}
 
 -- ---- the lane's record
 
+-- lanes that test as the same have the same number
 same_number : (s : Script) (x y : Lane) → same_lane x y ≡ true → lane_number s y ≡ lane_number s x
 same_number s (ObjectLane d) (ObjectLane x) h = eqb-true x.0 d.0 h
 same_number s (QueueLane p) (QueueLane x) h = let e : x.0 ≡ p.0 = eqb-true x.0 p.0 h in omega (arith, e)
@@ -77,6 +78,7 @@ number_among s x (y ∷ ys) h = go (number_among s x ys) (same_lane x y) refl
         let rest : is_among x ys ≡ true = subst (λ (b : Bool). (b || list_any (same_lane x) ys) ≡ true) e h in
         Contains-append_right (lane_number s y ∷ []) (map (lane_number s) ys) (lane_number s x) (next rest)
 
+-- a lane that an event touches and that has room and is known to the pass is ready for the event
 pub is_ready : (s : Script) (n : ℕ) (x : Lane) (lanes : List Lane) (numbers : List ℕ) (r : LaneRecord) (v : View) → reach step_word v ≤ n →
     numbers ≡ map (lane_number s) lanes → r.lane ≡ lane_number s x → IsKnownBy r v → 1 ≤ r.room → is_among x lanes ≡ true → IsReady n numbers r
 is_ready s n x lanes numbers r v least is lane known room among = record {
@@ -92,6 +94,7 @@ of_held {A} P o x e h = let z : IfSome (Some x) P = subst (λ (y : Option A). If
 
 -- ---- the job is allowed
 
+-- the thread of a rundown leaves in the states of all lanes if it leaves in the threads among them
 pub leaves : (l : Lanes) (st : Stand) (j : Job) → Leaves l.threads st j → jobs.Leaves l st j
 leaves l st job.Rundown h = h
 leaves l st j h = tt
@@ -106,6 +109,7 @@ module _ (s : Script) (h : HeldLanes) (st : Stand) (j : Job) (p : Plan) (plan : 
   abbrev all : AllStates
   all = record { script = s; lanes = held_lanes states }
 
+  -- what is to be known of a planned event in the states of all lanes is known
   pub known : Knows all st p.event.what
   known =
       knows_job all st p.event.what j named (jobs.is_allowed (held_lanes states) st j plan.decided.can.stands (leaves (held_lanes states) st j plan.leaves))
@@ -115,6 +119,7 @@ module _ (s : Script) (h : HeldLanes) (st : Stand) (j : Job) (p : Plan) (plan : 
   pub by_cpu : p.event.cpu ≡ st.cpu
   by_cpu = ap (λ (e : Event). e.cpu) plan.event
 
+  -- the held group of threads may leave the planned event
   pub group_may : (k : Kept GroupState) → h.group ≡ Some k → MayLeaveGroup s st p.event k.state
   group_may k is =
       let at : in_each h.group (λ k. k.state) ≡ Some k.state = ap (λ (y : Option (Kept GroupState)). in_each y (λ k. k.state)) is in
@@ -132,6 +137,7 @@ module _ (s : Script) (h : HeldLanes) (st : Stand) (j : Job) (p : Plan) (plan : 
             at plan.runs;
       }
 
+  -- the held timers may leave the planned event
   pub timers_may : (k : Kept Timers) → h.timers ≡ Some k → MayLeaveTimers s p.event k.state
   timers_may k is =
       let at : in_each h.timers (λ k. k.state) ≡ Some k.state = ap (λ (y : Option (Kept Timers)). in_each y (λ k. k.state)) is in
@@ -147,11 +153,13 @@ module _ (s : Script) (h : HeldLanes) (st : Stand) (j : Job) (p : Plan) (plan : 
 
 -- ---- the object and the queue
 
+-- an optional held lane is not touched if no state that it may have is named among the touched lanes
 none_touched : {A : Type 0} (name : A → Lane) (o : Option A) (lanes : List Lane) → ((k : A) → is_among (name k) lanes ≡ false) →
     is_touched (in_each o name) lanes ≡ false
 none_touched name None lanes h = refl
 none_touched name (Some k) lanes h = h k
 
+-- a held lane is touched if its name is among the touched lanes
 one_touched : {A : Type 0} (name : A → Lane) (o : Option A) (k : A) (lanes : List Lane) → o ≡ Some k → is_among (name k) lanes ≡ true →
     is_touched (in_each o name) lanes ≡ true
 one_touched name o k lanes e h = ap (λ y. is_touched (in_each y name) lanes) e ∙ h

@@ -43,6 +43,7 @@ module _ (s : Script) (h : HeldLanes) (st : Stand) (j : Job) (u v w : View) (the
   all_learned : Learns u w
   all_learned = subst (λ (x : View). Learns u x) (sym same) learns
 
+  -- if there is no event for a reason in the held states, the act is not done for that reason
   pub no_event : (r : ActRefusal) → IsNoEvent (states_of s h) st j r → IsNotDone s st j u w r
   no_event r why = record {
     found = found_in s h;
@@ -51,6 +52,7 @@ module _ (s : Script) (h : HeldLanes) (st : Stand) (j : Job) (u v w : View) (the
     learns = all_learned;
   }
 
+  -- if an event was planned, being out of memory is a reason for which the act is not done
   pub no_memory : (p : Plan) → IsPlan (states_of s h) st j p → IsNotDone s st j u w NoMemory
   no_memory p plan = record {
     found = found_in s h;

@@ -19,9 +19,11 @@ use Rattle.nt_lane.specs.Tries.{HasMade, IsDone, IsNotDone}
 use Rattle.nt_lane_record.specs.Passes.{Learns, grows_same, grows_through}
 use Rattle.nt_lane.specs.Views.{drawable_of}
 
+-- a pass that did nothing has learned from itself
 pub learns_same : (v : View) → Learns v v
 learns_same v = record { entries = refl; marks = refl; looks = refl; least = λ u. omega arith; grows = grows_same v }
 
+-- a pass that learned twice in a row has learned from the first to the last
 pub learns_through : (u v w : View) → Learns u v → Learns v w → Learns u w
 learns_through u v w g h = record {
   entries = h.entries ∙ g.entries;
@@ -31,6 +33,7 @@ learns_through u v w g h = record {
   grows = grows_through u v w g.grows h.grows;
 }
 
+-- a pass that only learned may still draw an event if it could before
 pub room_left : (m : Marks) (u v : View) → Learns u v → 1 ≤ drawable_of m u → 1 ≤ drawable_of m v
 room_left m u v l h =
     let entries : length v.entries ≡ length u.entries = ap (λ (es : List Entry). length es) l.entries in
@@ -39,6 +42,7 @@ room_left m u v l h =
 
 -- ---- before an event was made, and after it
 
+-- an event that a pass made after it had only learned was made since before it learned
 pub made_after : (n : ℕ) (e : Event) (lanes : List ℕ) (asks : List Ask) (u v w : View) → Learns u v → HasMade n e lanes asks v w →
     HasMade n e lanes asks u w
 made_after n e lanes asks u v w l h = record {
@@ -52,6 +56,7 @@ made_after n e lanes asks u v w l h = record {
   grows = grows_through u v w l.grows h.grows;
 }
 
+-- an act that was done after the pass had only learned was done since before it learned
 pub done_after : (s : Script) (st : Stand) (job : Job) (u v w : View) (a : Acted) → Learns u v → IsDone s st job v w a → IsDone s st job u w a
 done_after s st job u v w a l d = record {
   found = d.found;
@@ -63,6 +68,7 @@ done_after s st job u v w a l d = record {
   told = d.told;
 }
 
+-- an act that was refused after the pass had only learned was refused since before it learned
 pub not_done_after : (s : Script) (st : Stand) (job : Job) (u v w : View) (r : ActRefusal) → Learns u v → IsNotDone s st job v w r →
     IsNotDone s st job u w r
 not_done_after s st job u v w r l h = record {

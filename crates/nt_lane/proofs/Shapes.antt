@@ -76,51 +76,62 @@ pub data Shape (s : Script) (l : Lanes) (by : CpuNo) (lanes : List Lane) (c : Ch
 
 -- ---- lists of lanes
 
+-- a disjunction with false is its first part
 or_off : (b : Bool) → (b || false) ≡ b
 or_off true = refl
 or_off false = refl
 
+-- a lane that is not the timers is not in a list that has the timers or nothing
 if_timers : (b : Bool) (x : Lane) → same_lane x TimersLane ≡ false → list_any (same_lane x) (lane_if b TimersLane) ≡ false
 if_timers true x h = rw h refl
 if_timers false x h = refl
 
+-- case: an event that touches one DPC object alone touches that object
 object_only : (d : DpcNo) → TheObject d (ObjectLane d ∷ [])
 object_only d = record { among = λ x. or_off (d.0 == x.0); held = λ P h. h.0 }
 
+-- case: an event that touches a DPC object and a queue touches that object
 object_first : (d : DpcNo) (p : CpuNo) → TheObject d (ObjectLane d ∷ QueueLane p ∷ [])
 object_first d p = record { among = λ x. or_off (d.0 == x.0); held = λ P h. h.0 }
 
+-- case: an event that touches a DPC object and a queue touches that queue
 queue_second : (d : DpcNo) (p : CpuNo) → TheQueue p (ObjectLane d ∷ QueueLane p ∷ [])
 queue_second d p = record { among = λ x. or_off (p.0 == x.0); held = λ P h. h.1.0 }
 
+-- case: an event that touches a DPC object, a queue and perhaps the timers touches that object
 object_first_if : (d : DpcNo) (p : CpuNo) (b : Bool) → TheObject d (ObjectLane d ∷ QueueLane p ∷ lane_if b TimersLane)
 object_first_if d p b = record {
   among = λ x. ap (λ (z : Bool). (d.0 == x.0) || (false || z)) (if_timers b (ObjectLane x) refl) ∙ or_off (d.0 == x.0);
   held = λ P h. h.0;
 }
 
+-- case: an event that touches a DPC object, a queue and perhaps the timers touches that queue
 queue_second_if : (d : DpcNo) (p : CpuNo) (b : Bool) → TheQueue p (ObjectLane d ∷ QueueLane p ∷ lane_if b TimersLane)
 queue_second_if d p b = record {
   among = λ x. ap (λ (z : Bool). false || ((p.0 == x.0) || z)) (if_timers b (QueueLane x) refl) ∙ or_off (p.0 == x.0);
   held = λ P h. h.1.0;
 }
 
+-- case: an event that touches a queue and perhaps the timers touches that queue
 queue_if : (p : CpuNo) (b : Bool) → TheQueue p (QueueLane p ∷ lane_if b TimersLane)
 queue_if p b = record {
   among = λ x. ap (λ (z : Bool). (p.0 == x.0) || z) (if_timers b (QueueLane x) refl) ∙ or_off (p.0 == x.0);
   held = λ P h. h.0;
 }
 
+-- case: an event that touches a queue and a group of threads touches that queue
 queue_and_threads : (p q : CpuNo) → TheQueue p (QueueLane p ∷ ThreadsLane q ∷ [])
 queue_and_threads p q = record { among = λ x. or_off (p.0 == x.0); held = λ P h. h.0 }
 
 -- ---- what replies say
 
+-- an entry that begins an ordinary DPC is an entry of that DPC
 taken_ordinary : (o : Option InsertEntry) (d : DpcNo) (from : ℕ) → option_map (begin_dpc OrdinaryPart) o ≡ Some (Begin (Dpc d) from) →
     option_map (λ (i : InsertEntry). i.dpc) o ≡ Some d
 taken_ordinary None d from h = cc
 taken_ordinary (Some i) d from h = cc
 
+-- an entry that begins a threaded DPC is an entry of that DPC
 taken_threaded : (o : Option InsertEntry) (d : DpcNo) (from : ℕ) → option_map (begin_dpc ThreadedPart) o ≡ Some (Begin (Threaded d) from) →
     option_map (λ (i : InsertEntry). i.dpc) o ≡ Some d
 taken_threaded None d from h = cc

@@ -9,6 +9,7 @@ use Rattle.nt_event.proofs.Tables.{get_or-table}
 use Rattle.nt_event.specs.Acts.{Told, told_over}
 use Rattle.nt_states.specs.Reads.{AreHeld}
 
+-- the lanes from a place on are the one at that place and those after it
 rest_of : (lanes : List Lane) (i : ℕ) (d : Lane) → i < length lanes → drop i lanes ≡ get_or lanes i d ∷ drop (i + 1) lanes
 rest_of lanes i d h = rw add-one (drop-cons lanes i d h)
 
@@ -25,6 +26,7 @@ over_next told lanes p i d values new h e before c k =
     rw (rest_of lanes i d h) at (before c k) in
     omega (arith, read, old)
 
+-- when no lane is left, the value gathered for a class is what the lanes tell of it together
 pub nothing_left : (told : Told) (lanes : List Lane) (p : CpuNo) (i : ℕ) (values : List ℕ) (c : ℕ) → length lanes ≤ i →
     max (told_over told (drop i lanes) p c) (value_at values c) ≡ told_over told lanes p c → value_at values c ≡ told_over told lanes p c
 nothing_left told lanes p i values c h e =

@@ -36,6 +36,7 @@ queue_left s n by w objects q = queue_with q (queue_after s q.cpu n by w objects
 -- ---- of both; an event that names this object is one that names its number
 
 module _ (n : ℕ) (by : CpuNo) (o : ObjectFacts) (q : QueueFacts) where
+  -- an event that may change a held object and queue together leaves the object as its change moves it
   pub both_object : (w : What) → MayChangeBoth o q by (change_of w) → object_left n by w o ≡ object_moved n q.cpu (change_of w) o
   both_object (Call f (Queue d) Yes) m =
       ap (λ (x : DpcNo). object_left n by (Call f (Queue x) Yes) o) m.0 ∙ ap (object_with o) (object_calls_are_events.queue o n f by q.cpu m.1.to)
@@ -84,6 +85,7 @@ module _ (n : ℕ) (by : CpuNo) (o : ObjectFacts) (q : QueueFacts) where
 
 -- ---- of an object alone
 
+-- an event that may change an object alone leaves it as its change sets it
 pub alone_object : (n : ℕ) (by : CpuNo) (o : ObjectFacts) (w : What) → MayChangeObject o (change_of w) → object_left n by w o ≡ object_set (change_of w) o
 alone_object n by o (Call f (SetImportanceCall d i) Done) m =
     ap (λ (x : DpcNo). object_left n by (Call f (SetImportanceCall x i) Done) o) m ∙ ap (object_with o) (object_calls_are_events.importance o n f by i)
@@ -104,6 +106,7 @@ alone_object n by o w m = refl
 same_idle : (b : Bool) (q : QueueFacts) → record q { state = record q.state { idle = cond b q.state.idle q.state.idle } } ≡ q
 same_idle b q = λ i. record q { state = record q.state { idle = either_way b q.state.idle i } }
 
+-- an event that may change a queue alone changes at most whether its processor is idle, as its change says
 pub alone_queue : (s : Script) (objects : List ObjectState) (n : ℕ) (q : QueueFacts) (w : What) → MayChangeQueue (change_of w) →
     queue_left s n q.cpu w objects q ≡ queue_idle (change_of w) q
 alone_queue s objects n q RestEvent m = ap (queue_with q) (queue_calls_are_events.rest s objects q n)

@@ -18,6 +18,7 @@ next_more [] x = refl
 next_more (y ∷ []) x = refl
 next_more (y ∷ z ∷ ns) x = next_more (z ∷ ns) x
 
+-- after one note more, the state last shown is the first state of that note, or the earlier one if it has none
 pub shown_more : (s : LaneState) (ns : List Note) (x : Note) → last_shown s (ns ++ x ∷ []) ≡ first_state (last_shown s ns) x.states
 shown_more s [] x = refl
 shown_more s (y ∷ ns) x = shown_more (first_state s y.states) ns x

@@ -10,6 +10,7 @@ use Rattle.nt_states.specs.declared.locks.Move.{Move}
 use Rattle.nt_states.specs.LockMoves.{move_of}
 use Rattle.nt_lane_record.specs.Held.{SpinFacts}
 
+-- the state that a move leaves of a spin lock is the one that the lock's facts have after the event of that move
 pub moved_so : (s : Script) (k lock : LockNo) (by : Move) (p : CpuNo) (w : What) (x : SpinFacts) (old new : LockState) →
     record { lock = lock; state = old } ≡ x → k.0 ≡ lock.0 → move_of k by ≡ lock_move w → new ≡ lock_moved s k p (move_of k by) old →
     record { lock = lock; state = new } ≡ record x { state = lock_moved s x.lock p (lock_move w) x.state }

@@ -24,25 +24,31 @@ pub record AskWithin (cpus : ℕ) (a : Ask) : Type 0 where
   pub cpu : a.cpu.0 < cpus
   pub class : a.class < 16
 
+-- what holds of all of a list holds of its first element
 all_head : {A : Type 0} (P : A → Type 0) (x : A) (xs : List A) → All P (x ∷ xs) → P x
 all_head P x xs h = h 0 x (omega arith)
 
+-- what holds of all of a list holds of the rest after the first
 all_tail : {A : Type 0} (P : A → Type 0) (x : A) (xs : List A) → All P (x ∷ xs) → All P xs
 all_tail P x xs h k d l = h (suc k) d (omega arith)
 
+-- asks that fit the script name a processor below the count and one of the sixteen classes
 pub all_within : (s : Script) (asks : List Ask) → All (AskFits s) asks → All (AskWithin s.cpus) asks
 all_within s asks h k d l =
     let fits = h k d l in record { cpu = ltb-true (get_or asks k d).cpu.0 s.cpus fits.cpu; class = fits.class }
 
+-- choosing one more than the number or the old value is raising the value
 as_raised : (b : Bool) (n old : ℕ) → (if b then n + 1 else old) ≡ raised b n old
 as_raised true n old = refl
 as_raised false n old = refl
 
+-- an ask that tests as for a processor and class is of that processor and class
 is_ask_true : (q : CpuNo) (d : ℕ) (a : Ask) → is_ask q d a ≡ true → (a.cpu.0 ≡ q.0) × (a.class ≡ d)
 is_ask_true q d a h =
     let p = and_parts (a.cpu.0 == q.0) (a.class == d) h in
     (eqb-true a.cpu.0 q.0 p.0, eqb-true a.class d p.1)
 
+-- an ask for a processor and class can't fail the test for these
 is_ask_false : (q : CpuNo) (d : ℕ) (a : Ask) → is_ask q d a ≡ false → a.cpu.0 ≡ q.0 → a.class ≡ d → ⊥
 is_ask_false q d a h e f = go (and_cases (a.cpu.0 == q.0) (a.class == d) h)
   where
@@ -50,6 +56,7 @@ is_ask_false q d a h e f = go (and_cases (a.cpu.0 == q.0) (a.class == d) h)
     go (inl k) = eqb-false a.cpu.0 q.0 k e
     go (inr k) = eqb-false a.class d k f
 
+-- equal places in the list of told values are of the same processor and the same class
 pub same_place : (p c q d : ℕ) → c < 16 → d < 16 → p * 16 + c ≡ q * 16 + d → (p ≡ q) × (c ≡ d)
 same_place p c q d h k e = (omega arith, omega arith)
 
@@ -69,6 +76,7 @@ one n a xs q d room low k = go (is_ask q d a) refl
         get_or-set_other xs (told_place a.cpu a.class) (told_place q d) (n + 1) 0
         (λ i. let s = same_place q.0 d a.cpu.0 a.class k low i in is_ask_false q d a e (sym s.0) (sym s.1))
 
+-- raising twice with the same number is raising once if either asks
 twice : (b more : Bool) (n old : ℕ) → raised more n (raised b n old) ≡ raised (b || more) n old
 twice true true n old = refl
 twice true false n old = refl
@@ -86,6 +94,7 @@ several cpus n (a ∷ asks) xs q d len fits k =
     ∙ (ap (λ (v : ℕ). raised (list_any (is_ask q d) asks) n v) (one n a xs q d room here.class k)
     ∙ twice (is_ask q d a) (list_any (is_ask q d) asks) n (get_or xs (told_place q d) 0))
 
+-- raising told values by asks leaves their list as long as it was
 pub length-raised_list : (n : ℕ) (asks : List Ask) (xs : List ℕ) → length (raised_list n asks xs) ≡ length xs
 length-raised_list n [] xs = refl
 length-raised_list n (a ∷ asks) xs =
@@ -110,6 +119,7 @@ rows_then cpus n asks xs len fits =
 
 -- ---- asks within the list
 
+-- each ask that fits the script has its place within the list of told values
 pub places_within : (s : Script) (asked : List Asked) (told : List ℕ) → length told ≡ s.cpus * 16 → All (AskFits s) (as_asks asked) →
     All (λ (a : Asked). a.cpu.0 * 16 + a.class < length told) asked
 places_within s asked told len h k d l =
@@ -121,6 +131,7 @@ places_within s asked told len h k d l =
 
 -- ---- what is told is known
 
+-- a pass that knows all of an event's asks knows of a request after that event where one of them asks
 asked_known : (n : ℕ) (v : View) (p : CpuNo) (c : ℕ) (asks : List Ask) → list_any (is_ask p c) asks ≡ true → All (IsAskKnown n v) asks →
     n + 1 ≤ reach (request_word p c) v
 asked_known n v p c [] h k = cc
@@ -135,6 +146,7 @@ asked_known n v p c (a ∷ asks) h k = go (is_ask p c a) refl h (λ i. asked_kno
         rw at at here
     go false e i more = more i
 
+-- what is told of a processor and class in range is raised by an event's asks if one of them is for these
 within : (cpus n : ℕ) (asks : List Ask) (old : List (List ℕ)) (p : CpuNo) (c : ℕ) → p.0 < cpus → c < 16 → told_at (told_then cpus n asks old) p c
     ≡ raised (list_any (is_ask p c) asks) n (told_at old p c)
 within cpus n asks old p c h k =
@@ -142,10 +154,12 @@ within cpus n asks old p c h k =
     (get_or-table cpus p.0 (λ q. table 16 (λ d. raised (list_any (is_ask (cpu q) d) asks) n (told_at old (cpu q) d))) [] h)
     ∙ get_or-table 16 c (λ d. raised (list_any (is_ask p d) asks) n (told_at old p d)) 0 k
 
+-- a raised value is at most a bound that the old one is at most and that the number is below
 raised_known : (b : Bool) (n old a s : ℕ) → (b ≡ true → n + 1 ≤ a) → old ≤ a → n + 1 ≤ s → old ≤ s → (raised b n old ≤ a) × (raised b n old ≤ s)
 raised_known true n old a s h i j k = (h refl, j)
 raised_known false n old a s h i j k = (i, k)
 
+-- if what was told and the asks of an event are known, what is told after it is known
 pub known_then : (cpus n : ℕ) (asks : List Ask) (old : List (List ℕ)) (v : View) → AreKnown old v → All (IsAskKnown n v) asks → n + 1 ≤ reach step_word v →
     AreKnown (told_then cpus n asks old) v
 known_then cpus n asks old v h k drawn p c = go (cases_lt p.0 cpus) (cases_lt c 16)
@@ -173,11 +187,13 @@ known_then cpus n asks old v h k drawn p c = go (cases_lt p.0 cpus) (cases_lt c 
 
 -- ---- the loop
 
+-- when no asks are left to raise by, the told values are those of all asks
 pub all_told : (asks : List Asked) (i n : ℕ) (now all : List ℕ) → length asks ≤ i → raised_list n (as_asks (drop i asks)) now ≡ all → now ≡ all
 all_told asks i n now all h e = rw (drop_all i asks h) at e
 
 -- ---- nothing told
 
+-- rows of zeros tell that nothing was asked
 none_told : (cpus n : ℕ) (p : CpuNo) (c : ℕ) → told_at (told_rows cpus (replicate n 0)) p c ≡ 0
 none_told cpus n p c = go (cases_lt p.0 cpus) (cases_lt c 16)
   where
@@ -201,6 +217,7 @@ none_told cpus n p c = go (cases_lt p.0 cpus) (cases_lt c 16)
         (get_or_past (told_rows cpus (replicate n 0)) p.0 []
         (let e = length-table_from 0 cpus (λ q. table 16 (λ d. value_at (replicate n 0) (told_place (cpu q) d))) in omega (arith, a, e)))
 
+-- a list of zeros tells of no request, and so what it tells is known to every seat
 pub nothing_known : (cpus n : ℕ) (told : List ℕ) (v : View) → told ≡ replicate n 0 → AreKnown (told_rows cpus told) v
 nothing_known cpus n told v e p c =
     let z : told_at (told_rows cpus told) p c ≡ 0 = ap (λ (xs : List ℕ). told_at (told_rows cpus xs) p c) e ∙ none_told cpus n p c in

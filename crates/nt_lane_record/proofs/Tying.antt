@@ -17,6 +17,7 @@ use Rattle.nt_lane_record.proofs.Growing.{grows_by}
 use Rattle.nt_lane_record.specs.Records.{AreKnown, IsKnownWith, IsTied, item_numbers}
 use Rattle.nt_lane_record.specs.Passes.{Grows, Learns, grows_through}
 
+-- an element of a list with one element is equal to that one
 pub one_of : {A : Type 0} (y x : A) → Contains (y ∷ []) x → y ≡ x
 one_of {A} y x h = go h.0 h.1 h.2
   where
@@ -24,39 +25,49 @@ one_of {A} y x h = go h.0 h.1 h.2
     go zero l e = e
     go (suc k) l e = absurd (omega arith)
 
+-- a list of one element contains it
 pub here : {A : Type 0} (x : A) → Contains (x ∷ []) x
 here x = (0, omega arith, refl)
 
 -- ---- two seats that told each other
 
 module _ (a b v : View) (is : v ≡ both a (telling b 0 [])) where
+  -- being told by another seat leaves the lists that a seat keeps as they were
   pub kept_told : v.kept ≡ a.kept
   kept_told = ap (λ (u : View). u.kept) is ∙ append-nil a.kept
 
+  -- being told by another seat leaves a seat's own entries as they were
   pub entries_told : v.entries ≡ a.entries
   entries_told = ap (λ (u : View). u.entries) is ∙ append-nil a.entries
 
+  -- being told by another seat leaves a seat's marks as they were
   pub marks_told : v.marks ≡ a.marks
   marks_told = ap (λ (u : View). u.marks) is ∙ append-nil a.marks
 
+  -- being told by another seat leaves a seat's looks as they were
   pub looks_told : v.looks ≡ a.looks
   looks_told = ap (λ (u : View). u.looks) is ∙ append-nil a.looks
 
+  -- an entry that a seat knew is still known to it after it was told
   pub known_told : (e : Entry) → Contains a.known e → Contains v.known e
   known_told e h =
       subst (λ (u : View). Contains u.known e) (sym is) (Contains-append_left a.known (known_entries b) e h)
 
+  -- the entries of a seat that tells are known to the seat that is told
   pub own_told : (e : Entry) → Contains b.entries e → Contains v.known e
   own_told e h =
       subst (λ (u : View). Contains u.known e) (sym is) (Contains-append_right a.known (known_entries b) e (Contains-append_right b.known b.entries e h))
 
+  -- the lists that a seat keeps which tells are known to the seat that is told
   pub list_told : (k : LaneList) → Contains b.kept k → Contains v.prefixes k
   list_told k h =
       subst (λ (u : View). Contains u.prefixes k) (sym is) (Contains-append_right a.prefixes (known_lists b) k (Contains-append_right b.prefixes b.kept k h))
 
+  -- after being told, a seat knows of each word the greater of what the two seats knew
   pub reach_told : (w : ℕ) → reach w v ≡ max (reach w a) (reach w b)
   reach_told w = ap (reach w) is ∙ reach_both w a (telling b 0 [])
 
+  -- a seat that is told by another has and knows all that it had and knew
   pub grows_told : Grows a v
   grows_told =
       grows_by a v (ap (λ (u : View). u.parts) is ∙ (let z : a.parts + 0 ≡ a.parts = omega arith in z)) [] (ap (λ (u : View). u.entries) is)
@@ -72,6 +83,7 @@ module _ (a b v : View) (is : v ≡ both a (telling b 0 [])) where
     grows = grows_told;
   }
 
+-- learning twice in turn is learning
 pub learns_through : (u v w : View) → Learns u v → Learns v w → Learns u w
 learns_through u v w a b = record {
   entries = b.entries ∙ a.entries;
@@ -85,6 +97,7 @@ learns_through u v w a b = record {
 pub known_more : (told : List (List ℕ)) (v w : View) → ((u : ℕ) → reach u v ≤ reach u w) → AreKnown told v → AreKnown told w
 known_more told v w le h p c = let a = h p c in let b = le (request_word p c) in let d = le step_word in (omega arith, omega arith)
 
+-- a keeper's list, told values and events still fit together after a pass told the keeper what it knows
 pub tied_met : (t : TableId) (lane : ℕ) (told : List (List ℕ)) (items : List (ℕ × Event)) (t0 t1 : TableId) (l0 l1 : ℕ) (k0 p0 k1 : View) →
     IsTied t lane told items t0 l0 k0 → t1 ≡ t0 → l1 ≡ l0 → k1 ≡ both k0 (telling p0 0 []) → IsTied t lane told items t1 l1 k1
 tied_met t lane told items t0 t1 l0 l1 k0 p0 k1 h a b e = record {
@@ -104,6 +117,7 @@ pub noted_kept : (k : LaneList) (k1 k2 : View) (x : Note) → k1.kept ≡ k ∷ 
     k2.kept ≡ record { lane = k.lane; word = k.word; notes = k.notes ++ x ∷ [] } ∷ []
 noted_kept k k1 k2 x one is = ap (λ (v : View). v.kept) is ∙ ap (λ (ks : List LaneList). noted_at ks x) one
 
+-- if one more event is put on a lane's list, each event of the list is of an entry known with that lane
 pub items_more : (lane : ℕ) (items after : List (ℕ × Event)) (n : ℕ) (e : Event) (lanes : List ℕ) (v w : View) → after ≡ items ++ (n, e) ∷ [] →
     ((x : ℕ × Event) → Contains items x → IsKnownWith lane v x) → ((y : Entry) → Contains v.known y → Contains w.known y) →
     Contains lanes lane → Contains w.known (entry n e lanes) → (x : ℕ × Event) → Contains after x → IsKnownWith lane w x
@@ -115,6 +129,7 @@ items_more lane items after n e lanes v w is old more among new x h = ⊎_elim
     last : Contains ((n, e) ∷ []) x → IsKnownWith lane w x
     last b = subst (λ (z : ℕ × Event). IsKnownWith lane w z) (one_of (n, e) x b) (lanes, among, new)
 
+-- the numbers of a list of events and of its notes stay equal if both get one of the same number
 pub numbers_more : (items after : List (ℕ × Event)) (ns ms : List Note) (n : ℕ) (e : Event) (x : Note) →
     item_numbers items ≡ note_numbers ns → after ≡ items ++ (n, e) ∷ [] → ms ≡ ns ++ x ∷ [] → x.number ≡ n → item_numbers after ≡ note_numbers ms
 numbers_more items after ns ms n e x h a m q =
@@ -123,11 +138,13 @@ numbers_more items after ns ms n e x h a m q =
 
 -- ---- an empty list
 
+-- an empty list of events has no event to know
 pub no_item : (lane : ℕ) (v : View) (x : ℕ × Event) → Contains [] x → IsKnownWith lane v x
 no_item lane v x h = absurd (let k : h.0 < 0 = h.1 in omega (arith, k))
 
 -- ---- a comparison
 
+-- the list a keeper kept before a pass told it is the longest known of its lane if the one it keeps then is
 pub longest_kept : (lane l0 l1 : ℕ) (k0 p0 k1 p1 : View) → l0 ≡ lane → l1 ≡ l0 → k1 ≡ both k0 (telling p0 0 []) → IsLongest l1 (first_notes k1.kept) p1 →
     IsLongest lane (first_notes k0.kept) p1
 longest_kept lane l0 l1 k0 p0 k1 p1 at same is long =

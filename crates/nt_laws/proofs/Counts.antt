@@ -17,15 +17,18 @@ unfoldable made_below : ℕ → List Event → ℕ
 made_below zero past = 0
 made_below (suc n) past = made (cpu n) past + made_below n past
 
+-- in the empty history the processors below a number have made no events
 none_made : (n : ℕ) → made_below n [] ≡ 0
 unfolding made_below
 none_made zero = refl
 none_made (suc n) = let r = none_made n in omega (arith, r)
 
+-- an event counts one more for a processor if it is of it, and none otherwise
 step_made : (n : ℕ) (e : Event) (past : List Event) (b : Bool) → is_of e (cpu n) ≡ b → made (cpu n) (e ∷ past)
     ≡ (if b then made (cpu n) past + 1 else made (cpu n) past)
 step_made n e past b h = ap (λ (b : Bool). if b then made (cpu n) past + 1 else made (cpu n) past) h
 
+-- an event of no processor below a number leaves the count of those processors' events as it was
 not_made : (n : ℕ) (e : Event) (past : List Event) → n ≤ e.cpu.0 → made_below n (e ∷ past) ≡ made_below n past
 unfolding made_below
 not_made zero e past h = refl
@@ -35,6 +38,7 @@ not_made (suc n) e past h =
     let r = not_made n e past (omega arith) in
     omega (arith, m, r)
 
+-- an event of a processor below a number counts one more for the processors below it
 one_made : (n : ℕ) (e : Event) (past : List Event) → e.cpu.0 < n → made_below n (e ∷ past) ≡ suc (made_below n past)
 unfolding made_below
 one_made zero e past h = absurd (omega (arith, h))
@@ -53,20 +57,24 @@ one_made (suc n) e past h = go (is_of e (cpu n)) refl (λ c. one_made n e past c
         let r = ih c in
         omega (arith, m, r)
 
+-- a run has as many events as the script's processors made together
 count : (s : Script) (limit : ℕ) (past : List Event) → IsRun s limit past → length past ≡ made_below s.cpus past
 count s limit [] r = sym (none_made s.cpus)
 count s limit (e ∷ past) r =
     ap suc (count s limit past r.1) ∙ sym (one_made s.cpus e past (cpu_below s limit e past r.0))
 
+-- a processor whose history is not cut has made fewer events than the limit
 uncut_below : (s : Script) (limit : ℕ) (p : CpuNo) (past : List Event) → is_cut limit (own_of s p past) ≡ false → made p past < limit
 uncut_below s limit p past h =
     let k : nat_le limit (made p past) ≡ false = h in grind (arith, nat_tests)
 
+-- before an event that may come, its processor has made fewer events than the limit
 maker_below : (s : Script) (limit : ℕ) (e : Event) (past : List Event) → IsLegal s limit e past → made e.cpu past < limit
 maker_below s limit e past h =
     uncut_below s limit e.cpu past (subst (λ (q : CpuNo). is_cut limit (own_of s q past) ≡ false) (cpu_at-turn_at e.cpu e.what)
     (step_uncut s limit (turn_of e) past e h).1)
 
+-- in a run a processor makes no more events than the limit
 pub made_limit : (s : Script) (limit : ℕ) (p : CpuNo) (past : List Event) → IsRun s limit past → made p past ≤ limit
 made_limit s limit p [] r = omega arith
 made_limit s limit p (e ∷ past) r = go (is_of e p) refl (made_limit s limit p past r.1)
@@ -77,12 +85,14 @@ made_limit s limit p (e ∷ past) r = go (is_of e p) refl (made_limit s limit p 
         omega (arith, l)
     go false h ih = ih
 
+-- if each processor made at most the limit, n processors together made at most n times the limit
 all_below : (n limit : ℕ) (past : List Event) → ((q : ℕ) → made (cpu q) past ≤ limit) → made_below n past ≤ n * limit
 unfolding made_below
 all_below zero limit past h = omega arith
 all_below (suc n) limit past h =
     let a = h n in let r = all_below n limit past h in omega (arith, a, r)
 
+-- if moreover one of those processors made fewer than the limit, together they made fewer than n times it
 room_below : (n limit p : ℕ) (past : List Event) → ((q : ℕ) → made (cpu q) past ≤ limit) → p < n → made (cpu p) past < limit → made_below n past < n * limit
 unfolding made_below
 room_below zero limit p past h b m = absurd (omega (arith, b))

@@ -53,25 +53,31 @@ use Rattle.nt_runs.proofs.Pending.{no_kernel}
 use Rattle.nt_runs.proofs.Rundown.Run.{KernelPick, deliverable_fits, facts_fit_of, first_user_fits}
 use Rattle.nt_runs.proofs.Rundown.Steps.{Stands, facts_there, first_frame, flush_quiet, stands}
 
+-- a conjunction of two true parts is true
 all_true : (a b : Bool) → a ≡ true → b ≡ true → (a && b) ≡ true
 all_true true b h k = k
 all_true false b h k = cc
 
+-- an insert known as the first of a part of the queue passes the test for its first DPC
 insert_first : (part : Part) (q : QueueState) (d : DpcNo) (from : ℕ) → KnownInsert part q d from → is_first_dpc part d q ≡ true
 insert_first part q d from k =
     ap (λ (o : Option Insert). option_map_or (is_of_dpc d) o false) k.first ∙ eq-eqb k.insert.dpc.0 d.0 (ap (λ (x : DpcNo). x.0) (sym k.dpc))
 
+-- an APC known as the one picked passes the test for that pick
 pick_first : (o : Option Pick) (a : ApcNo) (from : ℕ) → KnownPick o a from → is_apc_pick a o ≡ true
 pick_first o a from k =
     ap (λ (o : Option Pick). option_map_or (is_of_apc a) o false) k.first ∙ eq-eqb k.pick.apc.0 a.0 (ap (λ (x : ApcNo). x.0) (sym k.apc))
 
+-- a timer key passes the test of being the same as itself
 same_key_itself : (k : TimerKey) → same_key k k ≡ true
 same_key_itself (OfTimer t) = eq-eqb t.0 t.0 refl
 same_key_itself (OfDelay t) = eq-eqb t.0 t.0 refl
 
+-- the test for less is true of a number that is less than another
 low_test : (n m : ℕ) → n < m → nat_lt n m ≡ true
 low_test n m h = lt-ltb n m h
 
+-- a timer key known as the next to expire is eligible as an expiry request
 key_eligible : (s : Script) (p : CpuNo) (x : Own) (l : Lanes) (key : TimerKey) (from : ℕ) → KnownKey x l key from → is_eligible s p x l (ExpiryRequest key)
     ≡ true
 key_eligible s p x l key from k =
@@ -80,6 +86,7 @@ key_eligible s p x l key from k =
     ∙ (ap (λ (z : TimerKey). same_key k.set.key z) k.key ∙ same_key_itself k.set.key) in
     all_true x.sweep _ k.sweep (all_true _ (nat_lt (level_at x) 2) first (low_test (level_at x) 2 k.low))
 
+-- an interrupt class known as the next to begin is eligible as an interrupt request
 interrupt_eligible : (s : Script) (p : CpuNo) (x : Own) (l : Lanes) (c from : ℕ) → KnownInterrupt x c from → is_eligible s p x l (IntRequest c) ≡ true
 interrupt_eligible s p x l c from k =
     let m = both (nat_lt (level_at x) c) (is_due x c) k.may in
@@ -89,6 +96,7 @@ interrupt_eligible s p x l c from k =
 user_body : (k : ApcKind) (a : ApcNo) → k ≡ UserApc → apc_request k a ≡ UserApcRequest a
 user_body k a h = ap (λ (q : ApcKind). apc_request q a) h
 
+-- an APC of a kernel kind is asked for by a kernel APC request
 kernel_request : (k : ApcKind) (a : ApcNo) → is_kernel_kind k ≡ true → apc_request k a ≡ KernelApcRequest a
 kernel_request SpecialApc a h = refl
 kernel_request NormalApc a h = refl
@@ -106,11 +114,13 @@ at_touser s p x k =
       ap (λ (o : Option Frame). option_map_or (is_at_touser s p x) o false) k.goes_on.inner ∙ inner,
     )
 
+-- a user APC that is due is the first user APC of a thread that is marked for user APCs
 marked_user : (x : ThreadFacts) (a : ApcNo) (from : ℕ) → KnownPick (user_due x) a from → (x.user_pending ≡ true) × KnownPick (first_user x.apcs) a from
 marked_user x a from k =
     let w = when_gives x.user_pending (first_user x.apcs) k.pick k.first in
     (w.0, record { pick = k.pick; first = w.1; apc = k.apc; number = k.number })
 
+-- an APC known as the next to begin is eligible as a request of its kind
 apc_eligible : (s : Script) (p : CpuNo) (past : List Event) (a : ApcNo) (from : ℕ) → KnownBegin s p (own_of s p past) (lanes_at s past) (Apc a) from →
     is_eligible s p (own_of s p past) (lanes_at s past) (apc_request (kind_of s a) a) ≡ true
 apc_eligible s p past a from (inl k) =
@@ -135,6 +145,7 @@ apc_eligible s p past a from (inr k) =
     ∙ all_true _ _ (pick_first (first_user (facts_of l x.frames.running).apcs) a from m.1)
     (all_true (is_at_base x) _ at.0 (all_true (option_map_or (is_at_touser s p x) (innermost x.frames) false) _ at.1 m.0))
 
+-- in a run the first user APC of a thread in rundown is eligible for a flush
 flush_eligible : (s : Script) (limit : ℕ) (p : CpuNo) (past : List Event) (a : ApcNo) (from : ℕ) (t : ThreadNo) → IsRun s limit past →
     KnownRundown (own_of s p past) t → KnownPick (first_user (facts_at (lanes_at s past) t).apcs) a from →
     is_eligible s p (own_of s p past) (lanes_at s past) (FlushRequest a) ≡ true
@@ -213,6 +224,7 @@ delivers s limit p past (Flush a from) r k =
     let q = k refl in flush_eligible s limit p past a from q.0 r q.1 q.2
 delivers s limit p past w r k = tt
 
+-- in a run what an event delivers was eligible on its processor just before it
 pub deliveries_are_eligible : (s : Script) (limit : ℕ) (e : Event) (past : List Event) (r : Request) → IsRun s limit (e ∷ past) → request_of s e.what
     ≡ Some r → eligible s e.cpu r past ≡ true
 deliveries_are_eligible s limit e past r run h =

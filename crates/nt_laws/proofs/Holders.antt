@@ -35,13 +35,16 @@ use Rattle.nt_laws.specs.Locks.{IsOpen, LaneTells, ProcessorHolds, ProcessorSpin
 
 -- ---- lists of frames
 
+-- what holds of each frame of a list holds of a frame that is in it
 each_at : (P : Frame → Type 0) (fs : List Frame) (f : Frame) → Each P fs → Contains fs f → P f
 each_at P [] f h c = contains_none f c
 each_at P (x ∷ fs) f h c = elim (contains_cases x fs f c) [ inl q ↦ subst P q h.0 | inr d ↦ each_at P fs f h.1 d ]
 
+-- a frame that is in a list is in the list with one more frame before it
 contains_more : (x f : Frame) (fs : List Frame) → Contains fs f → Contains (x ∷ fs) f
 contains_more x f fs c = let l = c.1 in (suc c.0, omega (arith, l), c.2)
 
+-- a test passed by a frame of a list is passed by some frame of it
 any_of : (U : List Held → Option Held → Bool) (fs : List Frame) (f : Frame) → Contains fs f → on_frame U f ≡ true → list_any (on_frame U) fs ≡ true
 any_of U [] f c h = contains_none f c
 any_of U (x ∷ fs) f c h =
@@ -54,6 +57,7 @@ any_of U (x ∷ fs) f c h =
     or_right true b k = refl
     or_right false b k = k
 
+-- if some frame of a list passes a test, there is a frame in the list that passes it
 of_any : (U : List Held → Option Held → Bool) (fs : List Frame) → list_any (on_frame U) fs ≡ true → (f : Frame) × Contains fs f × (on_frame U f ≡ true)
 of_any U [] h = cc
 of_any U (x ∷ fs) h = go (on_frame U x) refl h (λ k. of_any U fs k)
@@ -68,9 +72,11 @@ of_any U (x ∷ fs) h = go (on_frame U x) refl h (λ k. of_any U fs k)
 abbrev IsBusy : Frame → Type 0
 IsBusy f = Clear f → ⊥
 
+-- a frame that holds a lock is busy
 busy_holds : (k : LockNo) (f : Frame) → holds k f ≡ true → IsBusy f
 busy_holds k f h c = let z : list_any (λ (a : Held). a.lock.0 == k.0) [] ≡ true = subst (λ (hs : List Held). among k hs ≡ true) c.0 h in cc
 
+-- a frame that spins on a lock is busy
 busy_spins : (k : LockNo) (f : Frame) → SpinsOn k f → IsBusy f
 busy_spins k f h c = let a = h.1 in let b = c.1 in cc
 
@@ -82,6 +88,7 @@ busy_low s p f h b = go (nat_le (base_of f) 2) refl
     go true e = grind (arith, nat_tests)
     go false e = let high : 3 ≤ base_of f = grind (arith, nat_tests) in absurd (b (h.low high))
 
+-- two busy frames among the processor's own frames are the same frame
 one_own : (s : Script) (p : CpuNo) (gs : List Frame) (f g : Frame) → Each (Locked s p) gs → Under gs → Contains gs f → Contains gs g → IsBusy f → IsBusy g →
     f ≡ g
 one_own s p [] f g h u c d bf bg = contains_none f c
@@ -97,6 +104,7 @@ one_own s p (x ∷ gs) f g h u c d bf bg =
     go (inr q) (inl w) ih = absurd (bf (each_at Clear gs f (clear g w bg) q))
     go (inr q) (inr w) ih = ih q w
 
+-- two busy frames of a thread's part, clear but for its head, are the same frame
 one_part : (fs : List Frame) (f g : Frame) → Each Clear (tail_of fs) → Contains fs f → Contains fs g → IsBusy f → IsBusy g → f ≡ g
 one_part [] f g t c d bf bg = contains_none f c
 one_part (x ∷ fs) f g t c d bf bg = go (contains_cases x fs f c) (contains_cases x fs g d)
@@ -106,6 +114,7 @@ one_part (x ∷ fs) f g t c d bf bg = go (contains_cases x fs f c) (contains_cas
     go (inl q) (inr w) = absurd (bg (each_at Clear fs g t w))
     go (inr q) w = absurd (bf (each_at Clear fs f t q))
 
+-- no frame of the thread's part is busy while one of the processor's own frames is
 one_side : (s : Script) (p : CpuNo) (gs fs : List Frame) (f g : Frame) → Each (Locked s p) gs → Over gs fs → Contains gs f → Contains fs g → IsBusy f →
     IsBusy g → ⊥
 one_side s p gs fs f g h o c d bf bg =
@@ -117,6 +126,7 @@ one_side s p gs fs f g h o c d bf bg =
 abbrev RunsThere : Script → CpuNo → List Event → Frame → Type 0
 RunsThere s p past f = (t : ThreadNo) × (running p past ≡ Some t) × Contains (thread_frames s p t past) f
 
+-- in a run a frame of the running thread's part of a processor runs there
 runs_there : (s : Script) (limit : ℕ) (p : CpuNo) (past : List Event) (f : Frame) → IsRun s limit past → Contains (thread_part (frames_of s p past)) f →
     RunsThere s p past f
 runs_there s limit p past f r c = go (running p past) refl
@@ -148,6 +158,7 @@ one_busy s limit p past f g r (inr c) (inr d) bf bg =
     one_thread : (t u : ThreadNo) → ◌≡◌ {A = Option ThreadNo} (Some t) (Some u) → t ≡ u
     one_thread t u q = cc
 
+-- in a run a frame that stands on a processor has a level that fits its locks and its spin
 locked_at : (s : Script) (limit : ℕ) (p : CpuNo) (past : List Event) (f : Frame) → IsRun s limit past → StandsOn s p past f → Locked s p f
 locked_at s limit p past f r (inl c) = each_at (Locked s p) (own_frames p past) f (own_locked s limit p past r) c
 locked_at s limit p past f r (inr c) =
@@ -155,6 +166,7 @@ locked_at s limit p past f r (inr c) =
 
 -- ---- tests of the frames of one processor
 
+-- a processor has some frame that passes a test if one that stands there passes it
 some_of : (U : List Held → Option Held → Bool) (s : Script) (p : CpuNo) (past : List Event) (f : Frame) → StandsOn s p past f → on_frame U f ≡ true →
     some_frame U s p past ≡ true
 some_of U s p past f (inl c) h =
@@ -165,6 +177,7 @@ some_of U s p past f (inr c) h = or_right _ _ (any_of U (thread_part (frames_of 
     or_right true b k = refl
     or_right false b k = k
 
+-- if a processor has some frame that passes a test, a frame that stands there passes it
 of_some : (U : List Held → Option Held → Bool) (s : Script) (p : CpuNo) (past : List Event) → some_frame U s p past ≡ true → (f : Frame) ×
     StandsOn s p past f × (on_frame U f ≡ true)
 of_some U s p past h = go (list_any (on_frame U) (own_frames p past)) refl h
@@ -174,9 +187,11 @@ of_some U s p past h = go (list_any (on_frame U) (own_frames p past)) refl h
     go true e k = let y = of_any U (own_frames p past) e in (y.0, inl y.1, y.2)
     go false e k = let y = of_any U (thread_part (frames_of s p past)) k in (y.0, inr y.1, y.2)
 
+-- locks of equal numbers are equal
 lock_is : (j k : LockNo) → (j.0 == k.0) ≡ true → j ≡ k
 lock_is j k q = ap (λ (n : ℕ). record { 0 = n }) (eqb-true j.0 k.0 q)
 
+-- a frame that passes the test for spinning on a lock spins on it
 lock_at_spin : (k : LockNo) (f : Frame) → on_frame (spins_lock k) f ≡ true → SpinsOn k f
 lock_at_spin k f h = go f.spin refl h
   where
@@ -184,6 +199,7 @@ lock_at_spin k f h = go f.spin refl h
     go None q z = cc
     go (Some a) q z = (a, q, lock_is a.lock k z)
 
+-- a frame that spins on a lock passes the test for it
 spin_at_lock : (k : LockNo) (f : Frame) → SpinsOn k f → on_frame (spins_lock k) f ≡ true
 spin_at_lock k f (a, q, same) =
     ap (λ (o : Option Held). option_map_or (λ a. a.lock.0 == k.0) o false) q ∙ eq-eqb a.lock.0 k.0 (ap (λ (j : LockNo). j.0) same)
@@ -199,6 +215,7 @@ own_below s limit p (e ∷ past) f r c = go (is_of e p) refl (λ d. own_below s 
     go true o ih = let n = eqb-true e.cpu.0 p.0 o in let l = cpu_below s limit e past r.0 in omega (arith, n, l)
     go false o ih = let same : own_frames p (e ∷ past) ≡ own_frames p past = rw o in ih (subst (λ (fs : List Frame). Contains fs f) same c)
 
+-- in a run the processor of a thread's frame is one of the script's
 thread_below : (s : Script) (limit : ℕ) (p : CpuNo) (t : ThreadNo) (past : List Event) (f : Frame) → IsRun s limit past →
     Contains (thread_frames s p t past) f → p.0 < s.cpus
 thread_below s limit p t [] f r c = contains_none f c
@@ -213,6 +230,7 @@ thread_below s limit p t (e ∷ past) f r c = go (is_of e p) refl (λ d. thread_
 abbrev StandsSomewhere : Script → List Event → Frame → Type 0
 StandsSomewhere s past f = (p : CpuNo) × (p.0 < s.cpus) × StandsOn s p past f
 
+-- in a run an open frame that is busy stands on some processor
 stands : (s : Script) (limit : ℕ) (past : List Event) (f : Frame) → IsRun s limit past → IsOpen s past f → IsBusy f → StandsSomewhere s past f
 stands s limit past f r (inl (p, c)) b = (p, own_below s limit p past f r c, inl c)
 stands s limit past f r (inr (t, c)) b = go (either_runs (running (cpu_of s t) past) t)
@@ -229,10 +247,12 @@ stands s limit past f r (inr (t, c)) b = go (either_runs (running (cpu_of s t) p
 
 -- ---- the laws
 
+-- two processors that both pass the test for an optional processor are the same
 holder_one : (o : Option CpuNo) (p q : CpuNo) → is_queue o p ≡ true → is_queue o q ≡ true → p ≡ q
 holder_one None p q h k = cc
 holder_one (Some a) p q h k = ap (λ (n : ℕ). record { 0 = n }) (sym (eqb-true a.0 p.0 h) ∙ eqb-true a.0 q.0 k)
 
+-- in a run two open frames that hold the same declared lock are the same frame
 pub one_holds : (s : Script) (limit : ℕ) (k : LockNo) (past : List Event) (f g : Frame) → IsRun s limit past → has_lock s k ≡ true → IsOpen s past f →
     IsOpen s past g → holds k f ≡ true → holds k g ≡ true → f ≡ g
 one_holds s limit k past f g r has a b h i =
@@ -244,13 +264,16 @@ one_holds s limit k past f g r has a b h i =
     let same : y.0 ≡ x.0 = holder_one (lock_of s k past).holder y.0 x.0 q p in
     one_busy s limit x.0 past f g r x.2 (subst (λ (c : CpuNo). StandsOn s c past g) same y.2) (busy_holds k f h) (busy_holds k g i)
 
+-- in a run the frames of a thread that doesn't run hold no lock and spin on none
 pub stopped_none : (s : Script) (limit : ℕ) (t : ThreadNo) (past : List Event) (f : Frame) → IsRun s limit past → (running (cpu_of s t) past ≡ Some t → ⊥) →
     Contains (thread_frames s (cpu_of s t) t past) f → (f.held ≡ []) × (f.spin ≡ None)
 stopped_none s limit t past f r n c = each_at Clear (thread_frames s (cpu_of s t) t past) f ((parted s limit (cpu_of s t) past r).stopped t n) c
 
+-- an optional held lock that is one and is another shows the two to be equal
 held_one : (a b : Held) (o : Option Held) → o ≡ Some a → o ≡ Some b → a ≡ b
 held_one a b o p q = let z : Some a ≡ Some b = sym p ∙ q in cc
 
+-- in a run a processor spins on at most one lock
 pub spins_one : (s : Script) (limit : ℕ) (p : CpuNo) (j k : LockNo) (past : List Event) → IsRun s limit past → ProcessorSpins s p j past →
     ProcessorSpins s p k past → j ≡ k
 spins_one s limit p j k past r (f, c, h) (g, d, i) =
@@ -258,6 +281,7 @@ spins_one s limit p j k past r (f, c, h) (g, d, i) =
     let there : f.spin ≡ Some i.0 = ap (λ (x : Frame). x.spin) (sym same) ∙ i.1 in
     sym h.2 ∙ (ap (λ (a : Held). a.lock) (held_one h.0 i.0 f.spin h.1 there) ∙ i.2)
 
+-- in a run a processor spins on no lock that it holds
 pub spins_on_none_held : (s : Script) (limit : ℕ) (p : CpuNo) (k : LockNo) (past : List Event) → IsRun s limit past → ProcessorSpins s p k past →
     ProcessorHolds s p k past → ⊥
 spins_on_none_held s limit p k past r (f, c, h) (g, d, i) =
@@ -270,6 +294,7 @@ spins_on_none_held s limit p k past r (f, c, h) (g, d, i) =
     no_bool : false ≡ true → ⊥
     no_bool q = cc
 
+-- in a run a lock's lane names exactly the processor that holds it and those that spin on it
 pub lane_tells : (s : Script) (limit : ℕ) (p : CpuNo) (k : LockNo) (past : List Event) → IsRun s limit past → has_cpu s p ≡ true → has_lock s k ≡ true →
     LaneTells s p k past
 lane_tells s limit p k past r hp hk =

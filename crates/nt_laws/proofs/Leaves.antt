@@ -24,9 +24,11 @@ use Rattle.nt_runs.proofs.Rundown.{Leaves, leaves_unnamed, unnamed_leaving}
 use Rattle.nt_runs.proofs.Rundown.Run.{after, before, begun, changed, cleaned, ended_frame, flushes, interrupted, kept, own, switched}
 use Rattle.nt_runs.proofs.Rundown.Steps.{Stands, stands}
 
+-- anything follows if a false leave test is true
 no_leave : {A : Type 0} → false ≡ true → A
 no_leave h = cc
 
+-- case: the event is by the thread: what holds of a leaving thread holds after it
 leaves_named : (s : Script) (limit : ℕ) (t : ThreadNo) (e : Event) (past : List Event) → has_thread s t ≡ true → is_by e t ≡ true → IsLegal s limit e past →
     IsRun s limit past → (facts s t (e ∷ past)).leaving ≡ true → ((facts s t past).leaving ≡ true → Leaves s t past) → Leaves s t (e ∷ past)
 leaves_named s limit t e past has b g r l ih = go e.what refl
@@ -85,6 +87,7 @@ leaves_named s limit t e past has b g r l ih = go e.what refl
         ∙ ap (λ (w : What). (named_facts s t (length past) w (made_facts s (length past) (stand_at s (cpu_of s t) past) w (facts s t past))).leaving) k in
         no_leave (sym gone ∙ l)
 
+-- whether or not the event is by the thread: what holds of a leaving thread holds after it
 leaves_after : (s : Script) (limit : ℕ) (t : ThreadNo) (e : Event) (past : List Event) (by : Bool) → has_thread s t ≡ true → is_by e t ≡ by →
     IsLegal s limit e past → IsRun s limit past → (facts s t (e ∷ past)).leaving ≡ true → ((facts s t past).leaving ≡ true → Leaves s t past) →
     Leaves s t (e ∷ past)
@@ -93,6 +96,7 @@ leaves_after s limit t e past false has b g r l ih =
     let was : (facts s t past).leaving ≡ true = sym (unnamed_leaving s t e past b) ∙ l in
     leaves_unnamed s limit t e past has b g r was (ih was)
 
+-- in a run a leaving thread has no user APC frame, and no kernel APC pending once a rundown began
 pub leaves : (s : Script) (limit : ℕ) (t : ThreadNo) (past : List Event) → has_thread s t ≡ true → IsRun s limit past → (facts s t past).leaving ≡ true →
     Leaves s t past
 leaves s limit t [] has r l = no_leave l

@@ -82,6 +82,7 @@ switch_own : (s : Script) (limit : ℕ) (e : Event) (past : List Event) → IsLe
 switch_own s limit e past g t status k =
     (taken s limit e.cpu t past e (subst (λ (w : What). step s limit (turn_at e.cpu w) past ≡ Ok e) k g)).1
 
+-- the same event after two runs that agree on what it meets asks for, touches, leaves and keeps the same
 pub leaves_the_same : (s : Script) (limit : ℕ) (h k : List Event) (e : Event) → Alike s limit h k e → LeavesAlike s h k e
 leaves_the_same s limit h k e a =
     record { asks = asked; lanes = lanes; states = states_left s h k e a.length stand a.lanes asked lanes (lanes_of s e h) a.lanes; own = own }

@@ -41,6 +41,7 @@ contents s h k (x ∷ xs) q = (ap (λ (y : LaneState). y.content) q.0, contents 
 pub all_threads : (s : Script) (h : List Event) → length (lanes_at s h).threads ≡ length s.threads
 all_threads s h = length-table_from 0 (length s.threads) (λ t. facts s (thread t) h)
 
+-- anything follows from a test that is both false and true
 no_bool : {A : Type 0} → false ≡ true → A
 no_bool h = cc
 
@@ -95,6 +96,7 @@ same_step s limit h k t e kind w f own below uncut i u c =
     step_names s limit t k kind (f (own_of s (cpu_at t) k) (lanes_at s k)) w below cut (u k) named
     ∙ ap (λ (y : Event). Ok y) (ap (λ (x : Own). event_at s (cpu_at t) w x.frames) (sym own) ∙ i)
 
+-- a turn that makes an event gives it in each run with the same kept part and states of the lanes it touches
 pub step_is_local : (s : Script) (limit : ℕ) (h k : List Event) (t : Turn) (e : Event) → IsRun s limit h → IsRun s limit k → makes t ≡ true →
     own_of s (cpu_at t) h ≡ own_of s (cpu_at t) k → step s limit t h ≡ Ok e → SameOnEach s h k (lanes_of s e h) → step s limit t k ≡ Ok e
 step_is_local s limit h k (Next p) e r v m own g q =

@@ -21,6 +21,7 @@ module _ {A : Type 0} (start : A) (after : Made → A → A) where
   by_part [] = start
   by_part (m ∷ ms) = after m (by_part ms)
 
+-- a thing that only a processor's own events change is determined by the processor's own part
 by_own : {A : Type 0} (start : A) (after : Made → A → A) (f : List Event → A) (p : CpuNo) → f [] ≡ start →
     ((e : Event) (past : List Event) → f (e ∷ past) ≡ (if is_of e p
     then after (record { number = length past; event = e; due = due_of e.what (time past) }) (f past) else f past)) → (past : List Event) → f past
@@ -44,6 +45,7 @@ same_by : {A : Type 0} (start : A) (after : Made → A → A) (f : List Event �
 same_by start after f p z step h k e =
     by_own start after f p z step h ∙ (ap (by_part start after) e ∙ sym (by_own start after f p z step k))
 
+-- what a processor keeps is equal in histories with the same own part and the same values noticed and served
 pub keeps_its_part : (s : Script) (p : CpuNo) (h k : List Event) → own_part p h ≡ own_part p k → ((c : ℕ) → c < 16 → seen s p c h ≡ seen s p c k) →
     ((c : ℕ) → c < 16 → served s p c h ≡ served s p c k) → own_of s p h ≡ own_of s p k
 keeps_its_part s p h k e f g = λ i. record {

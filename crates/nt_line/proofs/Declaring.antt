@@ -17,10 +17,12 @@ use Rattle.nt_line.proofs.FieldTexts.{same_text}
 abbrev AtEach : List ℕ → List ℕ → Type 0
 AtEach field line = (k : ℕ) → k < length field → get_or field k 0 ≡ get_or line k 0
 
+-- a byte put in front of both keeps that a field has the bytes of its line
 longer : (b : ℕ) (field line : List ℕ) → AtEach field line → AtEach (b ∷ field) (b ∷ line)
 longer b field line h zero below = refl
 longer b field line h (suc k) below = h k (omega arith)
 
+-- the first field of a line has the line's bytes at each place
 first_bytes : (line : List ℕ) → AtEach (first (fields line)) line
 first_bytes [] = λ k below. absurd (omega arith)
 first_bytes (b ∷ bs) = go (is_byte 32 b) (fields bs) (first_bytes bs)
@@ -34,9 +36,11 @@ first_bytes (b ∷ bs) = go (is_byte 32 b) (fields bs) (first_bytes bs)
 abbrev IsLong : Keyword → Bool
 IsLong w = nat_le 3 (length (text_of w))
 
+-- all keywords have three letters at least
 all_long : list_all IsLong KEYWORDS ≡ true
 all_long = refl
 
+-- the first field of a line is no longer than the line
 no_longer : (line : List ℕ) → length (first (fields line)) ≤ length line
 no_longer [] = omega arith
 no_longer (b ∷ bs) = go (is_byte 32 b) (fields bs) (no_longer bs)
@@ -50,6 +54,7 @@ no_longer (b ∷ bs) = go (is_byte 32 b) (fields bs) (no_longer bs)
 abbrev Silent : Option Keyword → Type 0
 Silent o = IfSome o (λ w. declaring w ≡ None)
 
+-- the keyword found by a field declares nothing, if a test that all which declare pass holds of no keyword
 silent_find : (field : List ℕ) (p : Keyword → Bool) →
     ((w : Keyword) → bytes_eq field (text_of w) ≡ true → IsLong w ≡ true → is_some (declaring w) ≡ true → p w ≡ true) →
     (ks : List Keyword) → list_all IsLong ks ≡ true → list_any p ks ≡ false → Silent (find (λ w. bytes_eq field (text_of w)) ks)
@@ -73,6 +78,7 @@ silent_find field p h (w ∷ ks) long none = go (bytes_eq field (text_of w)) ref
     go true e more = declares_none e (declaring w) refl
     go false e more = more
 
+-- a keyword that declares nothing still declares nothing if only those of a version are kept
 silent_version : (version : ℕ) (o : Option Keyword) → Silent o → Silent (in_version version o)
 silent_version version None h = tt
 silent_version version (Some w) h = elim (nat_le (since w) version) as (λ t. Silent (cond t (Some w) None)) [ true ↦ h | false ↦ tt ]
@@ -89,6 +95,7 @@ letters x y z more w e long d =
     let third : get_or (text_of w) 2 0 ≡ z = at 2 (omega (arith, three)) in
     and_from _ _ d (rw (one, third) (and_from _ _ (eq-eqb x x refl) (eq-eqb z z refl)))
 
+-- a line of three bytes or more with the first and third letters of no declaring keyword declares nothing
 pub other_letters : (line : List ℕ) (d e : ℕ) → 3 ≤ length line → list_any (declares_with (get_or line 0 d) (get_or line 2 e)) KEYWORDS ≡ false →
     (version : ℕ) → IfSome (keyword_of version (first (fields line))) (λ w. declaring w ≡ None)
 unfolding word_of
@@ -98,6 +105,7 @@ other_letters (x ∷ y ∷ []) d e h none version = absurd (omega arith)
 other_letters (x ∷ y ∷ z ∷ more) d e h none version = silent_version version _
     (silent_find (first (fields (x ∷ y ∷ z ∷ more))) (declares_with x z) (letters x y z more) KEYWORDS all_long none)
 
+-- a line of less than three bytes declares nothing
 pub too_short : (line : List ℕ) → length line < 3 → (version : ℕ) → IfSome (keyword_of version (first (fields line))) (λ w. declaring w ≡ None)
 unfolding word_of
 too_short line h version =

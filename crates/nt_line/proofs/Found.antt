@@ -32,6 +32,7 @@ nowhere x (n ∷ ns) k j e = go (bytes_eq x n) e (nowhere x ns (k + 1) (j + 1))
     go true e more = absurd cc
     go false e more = more e
 
+-- a name that is not in two joined lists is in neither of them
 pub nowhere_both : (x : List ℕ) (xs ys : List (List ℕ)) (k : ℕ) → position_from (bytes_eq x) k (xs ++ ys) ≡ None → (position_from (bytes_eq x) k xs ≡ None) ×
     (place x ys ≡ None)
 nowhere_both x [] ys k e = (refl, nowhere x ys k 0 e)
@@ -51,6 +52,7 @@ is_new before (n ∷ ns) (suc i) h lt =
     let r = is_new (before ++ n ∷ []) ns i h.2 (omega arith) in
     (r.0, (nowhere_both (get_or ns i []) before (n ∷ []) 0 r.1).0)
 
+-- a name that has no place in the list of one other name differs from that name
 other_than : (x n : List ℕ) → place x (n ∷ []) ≡ None → bytes_eq x n ≡ false
 other_than x n e = go (bytes_eq x n) e
   where
@@ -67,6 +69,7 @@ stands_at before (n ∷ ns) (suc i) k h lt =
     let differs = other_than (get_or ns i []) n (nowhere_both (get_or ns i []) before (n ∷ []) 0 r.1).1 in
     rw differs (stands_at (before ++ n ∷ []) ns i (k + 1) h.2 (omega arith) ∙ ap (λ (m : ℕ). Some m) (omega arith))
 
+-- in a list of new names each name is found at its own place
 stands_here : (before xs : List (List ℕ)) (i : ℕ) → AreNew before xs → i < length xs → place (get_or xs i []) xs ≡ Some i
 stands_here before xs i h lt = stands_at before xs i 0 h lt ∙ ap (λ (m : ℕ). Some m) (omega arith)
 
@@ -86,6 +89,7 @@ new_parts before (n ∷ ns) ys h =
     let r = new_parts (before ++ n ∷ []) ns ys h.2 in
     ((h.0, h.1, r.0), subst (λ (b : List (List ℕ)). AreNew b ys) (append_assoc before (n ∷ []) ns) r.1)
 
+-- new names, followed by names that are new after them, are new names as one list
 pub new_from : (before xs ys : List (List ℕ)) → AreNew before xs → AreNew (before ++ xs) ys → AreNew before (xs ++ ys)
 new_from before [] ys h k = subst (λ (b : List (List ℕ)). AreNew b ys) (append-nil before) k
 new_from before (n ∷ ns) ys h k = (
@@ -95,6 +99,7 @@ new_from before (n ∷ ns) ys h k = (
       (subst (λ (b : List (List ℕ)). AreNew b ys) (sym (append_assoc before (n ∷ []) ns)) k),
 )
 
+-- if all names of a script differ, those of each kind are new after those of the kinds before
 pub names_fit : (names : NameLists) → AreNew [] (all_names names) → NamesFit names
 names_fit names h =
     let a = new_parts [] names.dpcs (names.timers ++ (names.threads ++ (names.apcs ++ (names.locks ++ names.routines)))) h in
@@ -104,6 +109,7 @@ names_fit names h =
     let e = new_parts (((names.dpcs ++ names.timers) ++ names.threads) ++ names.apcs) names.locks names.routines d.1 in
     record { dpcs = a.0; timers = b.0; threads = c.0; apcs = d.0; locks = e.0; routines = e.1 }
 
+-- if the names of each kind are new after those of the kinds before, all names of a script differ
 pub all_new : (names : NameLists) → NamesFit names → AreNew [] (all_names names)
 all_new names f =
     let e = new_from (((names.dpcs ++ names.timers) ++ names.threads) ++ names.apcs) names.locks names.routines f.locks f.routines in
@@ -129,6 +135,7 @@ record AreNamed (names : NameLists) : Type 0 where
   pub locks : (x : LockNo) → x.0 < length names.locks → read_lock names (show_lock names x) ≡ Ok x
   pub routines : (x : RoutineNo) → x.0 < length names.routines → read_routine names (show_routine names x) ≡ Ok x
 
+-- names that are few and fit are read as the things that they name
 are_named : (names : NameLists) → AreFew names → NamesFit names → AreNamed names
 are_named names few fit = record {
   dpcs = λ x lt.
@@ -191,12 +198,14 @@ are_named names few fit = record {
       ) refl;
 }
 
+-- an optional DPC is read from its name, or from the dash if there is none
 optional_dpc : (names : NameLists) → NamesFit names → AreNamed names → (o : Option DpcNo) → IfSome o (λ x. x.0 < length names.dpcs) →
     read_unless dash (read_dpc names) (show_unless dash (show_dpc names) o) ≡ Ok o
 optional_dpc names fit named None h = refl
 optional_dpc names fit named (Some x) h = unless_again dash (read_dpc names) (show_dpc names) x
     (name_no_dash (get_or names.dpcs x.0 []) (is_new [] names.dpcs x.0 fit.dpcs h).0) (named.dpcs x h)
 
+-- an optional routine is read from its name, or from the dash if there is none
 optional_routine : (names : NameLists) → NamesFit names → AreNamed names → (o : Option RoutineNo) → IfSome o (λ x. x.0 < length names.routines) →
     read_unless dash (read_routine names) (show_unless dash (show_routine names) o) ≡ Ok o
 optional_routine names fit named None h = refl
@@ -205,6 +214,7 @@ optional_routine names fit named (Some x) h = unless_again dash (read_routine na
     (is_new ((((names.dpcs ++ names.timers) ++ names.threads) ++ names.apcs) ++ names.locks) names.routines x.0 fit.routines h).0)
     (named.routines x h)
 
+-- if names are few and all differ, each thing is read from its name
 pub are_read : (names : NameLists) → AreFew names → NamesFit names → AreRead names
 are_read names few fit =
     let named = are_named names few fit in

@@ -17,19 +17,23 @@ find-filter p q h (x ∷ xs) = go (q x) refl (find-filter p q h xs)
     go true e more = ap (cond (p x) (Some x)) more
     go false e more = more ∙ sym (cond-false (p x) (Some x) (find p xs) (false_from_ne_true (p x) (λ t. cc (h x t, e))))
 
+-- if two tests hold together, the first holds
 first_of_both : (a b : Bool) → (a && b) ≡ true → a ≡ true
 first_of_both true b e = refl
 first_of_both false b e = absurd cc
 
+-- a text that equals one with a first letter has this letter first
 same_letter : (letter : ℕ) (more text : List ℕ) → bytes_eq (letter ∷ more) text ≡ true → (letter == get_or text 0 0) ≡ true
 same_letter letter more [] e = absurd cc
 same_letter letter more (c ∷ text) e = first_of_both _ _ e
 
+-- a word is found among the keywords with its first letter just as among all keywords of a list
 pub among_letter : (letter : ℕ) (more : List ℕ) (keywords : List Keyword) →
     find (λ w. bytes_eq (letter ∷ more) (text_of w)) (filter (begins_with letter) keywords) ≡ find (λ w. bytes_eq (letter ∷ more) (text_of w)) keywords
 among_letter letter more keywords =
     find-filter (λ w. bytes_eq (letter ∷ more) (text_of w)) (begins_with letter) (λ w. same_letter letter more (text_of w)) keywords
 
+-- a field that is not empty is looked up the same among the keywords with its first letter
 pub among_field : (field : List ℕ) (d : ℕ) → 1 ≤ length field → find (λ w. bytes_eq field (text_of w)) (filter (begins_with (get_or field 0 d)) KEYWORDS)
     ≡ find (λ w. bytes_eq field (text_of w)) KEYWORDS
 among_field [] d h = absurd (omega arith)

@@ -46,13 +46,16 @@ pub record Spells {A : Type 0} (keyword_for : A → Keyword) (args_for : A → R
 abbrev ok : {A : Type 0} → A → Result A ScriptKind
 ok x = Ok x
 
+-- a reader that succeeds with a value gives this value
 ok_is : {C : Type 0} (x y : C) → ok x ≡ Ok y → x ≡ y
 ok_is x y e = cc
 
+-- case: the keyword has no fields after it, so what is made is the one command it stands for
 takes0 : {C : Type 0} (P : Row → C → Type 0) (made : C) → P [] made → (args : Row) (c : C) → ok made ≡ Ok c → length args ≡ 0 → P args c
 takes0 P made good [] c e len = subst (P []) (ok_is made c e) good
 takes0 P made good (a ∷ args) c e len = absurd (omega arith)
 
+-- what holds of the text of each value that fits holds of one field that is read as such a value
 pub takes1 : {C A : Type 0} {read : List ℕ → Result A ScriptKind} {show : A → List ℕ} {Fits : A → Type 0} → Takes read show Fits
     → (P : Row → C → Type 0) (make : A → C)
     → ((x : A) → Fits x → P (show x ∷ []) (make x)) → (args : Row) (c : C) → read1 read make args ≡ Ok c → length args ≡ 1 → P args c
@@ -65,6 +68,7 @@ takes1 {C = C} {A = A} {read = read} {show = show} t P make good (a ∷ []) c e 
     subst (P (a ∷ [])) (ok_is made c b.then) s1
 takes1 t P make good (a ∷ more ∷ args) c e len = absurd (omega arith)
 
+-- what holds of the texts of two values that fit holds of two fields that are read as such values
 pub takes2 : {C A B : Type 0} {read : List ℕ → Result A ScriptKind} {show : A → List ℕ} {Fits : A → Type 0} {read' : List ℕ → Result B ScriptKind} {show' : B →
     List ℕ} {Fits' : B → Type 0} → Takes read show Fits → Takes read' show' Fits'
     → (P : Row → C → Type 0) (make : A → B → C)
@@ -82,6 +86,7 @@ takes2 {C = C} {A = A} {B = B} {read = read} {show = show} {read' = read'} {show
     subst (P (a ∷ a' ∷ [])) (ok_is made c d.then) s2
 takes2 t u P make good (a ∷ a' ∷ more ∷ args) c e len = absurd (omega arith)
 
+-- what holds of the texts of three values that fit holds of three fields that are read as such values
 pub takes3 : {C A B D : Type 0} {read : List ℕ → Result A ScriptKind} {show : A → List ℕ} {Fits : A → Type 0} {read' : List ℕ →
     Result B ScriptKind} {show' : B → List ℕ} {Fits' : B → Type 0} {read'' : List ℕ → Result D ScriptKind} {show'' : D → List ℕ} {Fits'' : D → Type 0} →
     Takes read show Fits → Takes read' show' Fits' → Takes read'' show'' Fits''
@@ -106,6 +111,7 @@ takes3 {C = C} {A = A} {B = B} {D = D} {read = read} {show = show} {read' = read
     subst (P (a ∷ a' ∷ a'' ∷ [])) (ok_is made c g.then) s3
 takes3 t u v P make good (a ∷ a' ∷ a'' ∷ more ∷ args) c e len = absurd (omega arith)
 
+-- what holds of the texts of four values that fit holds of four fields that are read as such values
 pub takes4 : {C A B D E : Type 0} {read : List ℕ → Result A ScriptKind} {show : A → List ℕ} {Fits : A → Type 0} {read' : List ℕ →
     Result B ScriptKind} {show' : B → List ℕ} {Fits' : B → Type 0} {read'' : List ℕ → Result D ScriptKind} {show'' : D → List ℕ} {Fits'' : D →
     Type 0} {read''' : List ℕ → Result E ScriptKind} {show''' : E → List ℕ} {Fits''' : E → Type 0} → Takes read show Fits → Takes read' show' Fits' →
@@ -144,6 +150,7 @@ command_keyword c = keyword.Call (command_verb c)
 abbrev pub SpellsCommand : NameLists → ℕ → Keyword → Row → Command → Type 0
 SpellsCommand names cpus = Spells command_keyword (command_args names) (CommandFits names cpus)
 
+-- fields that are read as a command are the command's fields behind its verb, and the command fits
 pub command_takes : (names : NameLists) (cpus : ℕ) → AreFew names → (v : Verb) (args : Row) (c : Command) → command_of names cpus v args ≡ Ok c → length args
     ≡ verb_arity v → SpellsCommand names cpus (keyword.Call v) args c
 command_takes names cpus few verb.Raise = takes1 level_takes (SpellsCommand names cpus (keyword.Call verb.Raise)) cmd.Raise
@@ -205,6 +212,7 @@ isr_keyword isr = keyword.Isr
 abbrev pub SpellsIsr : NameLists → ℕ → Keyword → Row → Isr → Type 0
 SpellsIsr names cpus = Spells isr_keyword (isr_args names) (IsrFits names cpus)
 
+-- fields that are read as an interrupt routine's line are the fields of it, and the routine fits
 pub isr_takes : (names : NameLists) (cpus : ℕ) → AreFew names → (args : Row) (x : Isr) → isr_of names cpus args ≡ Ok x → length args ≡ 3 →
     SpellsIsr names cpus keyword.Isr args x
 isr_takes names cpus few = takes3 (cpu_takes cpus) isr_level_takes (routine_takes names few) (SpellsIsr names cpus keyword.Isr)
@@ -217,6 +225,7 @@ dpc_keyword d = keyword.Dpc d.threaded
 abbrev pub SpellsDpc : NameLists → Keyword → Row → DpcDecl → Type 0
 SpellsDpc names = Spells dpc_keyword (dpc_args names) (DpcFits names)
 
+-- fields that are read as a DPC object's line are the fields of it, and the object fits
 pub dpc_line_takes : (names : NameLists) → AreFew names → (threaded : Bool) (args : Row) (x : DpcDecl) → dpc_of names threaded args ≡ Ok x → length args ≡ 1 →
     SpellsDpc names (keyword.Dpc threaded) args x
 dpc_line_takes names few threaded = takes1 (routine_takes names few) (SpellsDpc names (keyword.Dpc threaded))
@@ -228,6 +237,7 @@ timer_keyword t = keyword.Timer
 abbrev pub SpellsTimer : NameLists → Keyword → Row → TimerDecl → Type 0
 SpellsTimer names = Spells timer_keyword (timer_args names) (TimerFits names)
 
+-- fields that are read as a timer's line are the fields of it, and the timer fits
 pub timer_line_takes : (names : NameLists) → AreFew names → (args : Row) (x : TimerDecl) → timer_of names args ≡ Ok x → length args ≡ 1 →
     SpellsTimer names keyword.Timer args x
 timer_line_takes names few = takes1 (timer_dpc_takes names few) (SpellsTimer names keyword.Timer) (λ dpc. record { dpc = dpc })
@@ -239,6 +249,7 @@ thread_keyword t = keyword.Thread
 abbrev pub SpellsThread : NameLists → ℕ → Keyword → Row → ThreadDecl → Type 0
 SpellsThread names cpus = Spells thread_keyword (thread_args names) (ThreadFits names cpus)
 
+-- fields that are read as a thread's line are the fields of it, and the thread fits
 pub thread_line_takes : (names : NameLists) (cpus : ℕ) → AreFew names → (args : Row) (x : ThreadDecl) → thread_of names cpus args ≡ Ok x → length args ≡ 2 →
     SpellsThread names cpus keyword.Thread args x
 thread_line_takes names cpus few = takes2 (cpu_takes cpus) (routine_takes names few) (SpellsThread names cpus keyword.Thread)
@@ -256,6 +267,7 @@ apc_fields Special = 2
 apc_fields Normal = 3
 apc_fields User = 4
 
+-- fields that are read as an APC object's line are the fields of it, and the object fits
 pub apc_line_takes : (names : NameLists) → AreFew names → (k : ApcKind) (args : Row) (x : ApcDecl) → apc_of names k args ≡ Ok x → length args ≡ apc_fields k →
     SpellsApc names (keyword.Apc k) args x
 apc_line_takes names few Special =
@@ -284,6 +296,7 @@ pub record AreRead (names : NameLists) : Type 0 where
   pub timer_dpcs : (o : Option DpcNo) → IfSome o (λ x. x.0 < length names.dpcs) → read_timer_dpc names (show_unless dash (show_dpc names) o) ≡ Ok o
   pub rundowns : (o : Option RoutineNo) → IfSome o (λ x. x.0 < length names.routines) → read_rundown names (show_unless dash (show_routine names) o) ≡ Ok o
 
+-- the fields of a command that fits are read as that command
 pub command_again : (names : NameLists) (cpus : ℕ) → AreRead names → cpus ≤ 64 → (c : Command) → CommandFits names cpus c →
     command_of names cpus (command_verb c) (command_args names c) ≡ Ok c
 command_again names cpus are le (cmd.Raise level) h = rw (number_again 15 level (lit< tt) h) refl
@@ -320,19 +333,24 @@ pub args_count : (names : NameLists) (c : Command) → length (command_args name
 args_count names (cmd.Raise level) = refl
 args_count names c = refl
 
+-- the fields of an interrupt routine that fits are read as that routine
 pub isr_again : (names : NameLists) (cpus : ℕ) → AreRead names → cpus ≤ 64 → (x : Isr) → IsrFits names cpus x → isr_of names cpus (isr_args names x) ≡ Ok x
 isr_again names cpus are le x h = rw (cpu_again cpus x.cpu le h.0, number_again 15 x.level (lit< tt) h.1, h.2, are.routines x.routine h.3) refl
 
+-- the fields of a DPC object that fits are read as that object
 pub dpc_again : (names : NameLists) → AreRead names → (x : DpcDecl) → DpcFits names x → dpc_of names x.threaded (dpc_args names x) ≡ Ok x
 dpc_again names are x h = rw (are.routines x.routine h) refl
 
+-- the fields of a timer that fits are read as that timer
 pub timer_again : (names : NameLists) → AreRead names → (x : TimerDecl) → TimerFits names x → timer_of names (timer_args names x) ≡ Ok x
 timer_again names are x h = rw (are.timer_dpcs x.dpc h) refl
 
+-- the fields of a thread that fits are read as that thread
 pub thread_again : (names : NameLists) (cpus : ℕ) → AreRead names → cpus ≤ 64 → (x : ThreadDecl) → ThreadFits names cpus x →
     thread_of names cpus (thread_args names x) ≡ Ok x
 thread_again names cpus are le x h = rw (cpu_again cpus x.cpu le h.0, are.routines x.routine h.1) refl
 
+-- the fields of an APC of a given kind are read as the APC, and there are as many as its kind has
 apc_by : (names : NameLists) → AreRead names → (k : ApcKind) (t : ThreadNo) (r : RoutineNo) (n d : Option RoutineNo) →
     ApcFits names (record { kind = k; thread = t; kernel = r; normal = n; rundown = d })
     → (apc_of names k (apc_args names (record { kind = k; thread = t; kernel = r; normal = n; rundown = d }))
@@ -347,8 +365,10 @@ apc_by names are Normal t r (Some n) (Some d) h = let e = h.routines in absurd c
 apc_by names are User t r (Some n) d h = (rw (are.threads t h.thread, are.routines r h.kernel, are.routines n h.normal, are.rundowns d h.rundown) refl, refl)
 apc_by names are User t r None d h = let e = h.routines in absurd cc
 
+-- the fields of an APC object that fits are read as that object
 pub apc_again : (names : NameLists) → AreRead names → (x : ApcDecl) → ApcFits names x → apc_of names x.kind (apc_args names x) ≡ Ok x
 apc_again names are x h = (apc_by names are x.kind x.thread x.kernel x.normal x.rundown h).0
 
+-- an APC object that fits has as many fields as its kind wants
 pub apc_count : (names : NameLists) → AreRead names → (x : ApcDecl) → ApcFits names x → length (apc_args names x) ≡ apc_fields x.kind
 apc_count names are x h = (apc_by names are x.kind x.thread x.kernel x.normal x.rundown h).1

@@ -26,6 +26,7 @@ use Rattle.nt_line.specs.Rows.{show_unless}
 use Rattle.nt_line.proofs.Results.{bind_ok, or_error_ok}
 use Rattle.nt_line.proofs.FieldTexts.{Takes, same_text, unless_takes}
 
+-- a text that is found in a list searched from a place on stands at an index of that list
 placed_at : (f : List ℕ) (ns : List (List ℕ)) (k i : ℕ) → position_from (bytes_eq f) k ns ≡ Some i → (j : ℕ) × (i ≡ k + j) × (j < length ns) ×
     (f ≡ get_or ns j [])
 placed_at f [] k i e = absurd cc
@@ -37,6 +38,7 @@ placed_at f (n ∷ ns) k i e = go (bytes_eq f n) refl e (placed_at f ns (k + 1) 
     go true is e more = let same : k ≡ i = cc in (0, omega arith, omega arith, same_text f n is)
     go false is e more = let r = more e in (suc r.0, omega (arith, r.1), omega (arith, r.2), r.3)
 
+-- the place of a name in a list is below the list's length and holds that name
 pub place_takes : (f : List ℕ) (ns : List (List ℕ)) (i : ℕ) → place f ns ≡ Some i → (i < length ns) × (f ≡ get_or ns i [])
 place_takes f ns i e =
     let r = placed_at f ns 0 i e in
@@ -52,6 +54,7 @@ pub record AreFew (names : NameLists) : Type 0 where
   pub locks : length names.locks ≤ 64
   pub routines : length names.routines ≤ 256
 
+-- a thing at a place below 65535 has that place as its number
 pub number_is : (i : ℕ) → i < 65535 → number i ≡ i
 number_is i lt = rw (lt-ltb i 65535 lt) refl
 
@@ -151,58 +154,73 @@ kind_takes {X = X} make kind_of names few only = record { shown = λ field x e. 
 
 -- ---- each kind: what is read as a thing of the kind is one, so its name is taken
 
+-- a thing that is taken as a DPC is that DPC
 as_dpc_ok : (thing : Named) (x : DpcNo) → as_dpc thing ≡ Ok x → thing ≡ named.Dpc x
 as_dpc_ok (named.Dpc _) x e = cc
 as_dpc_ok _ x e = absurd cc
 
+-- a field that is read as a DPC object is that object's name, and the object has one
 pub dpc_takes : (names : NameLists) → AreFew names → Takes (read_dpc names) (show_dpc names) (λ x. x.0 < length names.dpcs)
 dpc_takes names few = kind_takes (λ (x : DpcNo). named.Dpc x) as_dpc names few as_dpc_ok
 
+-- a thing that is taken as a timer is that timer
 as_timer_ok : (thing : Named) (x : TimerNo) → as_timer thing ≡ Ok x → thing ≡ named.Timer x
 as_timer_ok (named.Timer _) x e = cc
 as_timer_ok _ x e = absurd cc
 
+-- a field that is read as a timer is that timer's name, and the timer has one
 pub timer_takes : (names : NameLists) → AreFew names → Takes (read_timer names) (show_timer names) (λ x. x.0 < length names.timers)
 timer_takes names few = kind_takes (λ (x : TimerNo). named.Timer x) as_timer names few as_timer_ok
 
+-- a thing that is taken as a thread is that thread
 as_thread_ok : (thing : Named) (x : ThreadNo) → as_thread thing ≡ Ok x → thing ≡ named.Thread x
 as_thread_ok (named.Thread _) x e = cc
 as_thread_ok _ x e = absurd cc
 
+-- a field that is read as a thread is that thread's name, and the thread has one
 pub thread_takes : (names : NameLists) → AreFew names → Takes (read_thread names) (show_thread names) (λ x. x.0 < length names.threads)
 thread_takes names few = kind_takes (λ (x : ThreadNo). named.Thread x) as_thread names few as_thread_ok
 
+-- a thing that is taken as an APC is that APC
 as_apc_ok : (thing : Named) (x : ApcNo) → as_apc thing ≡ Ok x → thing ≡ named.Apc x
 as_apc_ok (named.Apc _) x e = cc
 as_apc_ok _ x e = absurd cc
 
+-- a field that is read as an APC object is that object's name, and the object has one
 pub apc_takes : (names : NameLists) → AreFew names → Takes (read_apc names) (show_apc names) (λ x. x.0 < length names.apcs)
 apc_takes names few = kind_takes (λ (x : ApcNo). named.Apc x) as_apc names few as_apc_ok
 
+-- a thing that is taken as a lock is that lock
 as_lock_ok : (thing : Named) (x : LockNo) → as_lock thing ≡ Ok x → thing ≡ named.Lock x
 as_lock_ok (named.Lock _) x e = cc
 as_lock_ok _ x e = absurd cc
 
+-- a field that is read as a lock is that lock's name, and the lock has one
 pub lock_takes : (names : NameLists) → AreFew names → Takes (read_lock names) (show_lock names) (λ x. x.0 < length names.locks)
 lock_takes names few = kind_takes (λ (x : LockNo). named.Lock x) as_lock names few as_lock_ok
 
+-- a thing that is taken as a routine is that routine
 as_routine_ok : (thing : Named) (x : RoutineNo) → as_routine thing ≡ Ok x → thing ≡ named.Routine x
 as_routine_ok (named.Routine _) x e = cc
 as_routine_ok _ x e = absurd cc
 
+-- a field that is read as a routine is that routine's name, and the routine has one
 pub routine_takes : (names : NameLists) → AreFew names → Takes (read_routine names) (show_routine names) (λ x. x.0 < length names.routines)
 routine_takes names few = kind_takes (λ (x : RoutineNo). named.Routine x) as_routine names few as_routine_ok
 
 -- ---- names that may be left out, and new ones
 
+-- a field that is read as a timer's DPC is a dash for none, or the name of that DPC object
 pub timer_dpc_takes : (names : NameLists) → AreFew names →
     Takes (read_timer_dpc names) (show_unless dash (show_dpc names)) (λ o. IfSome o (λ d. d.0 < length names.dpcs))
 timer_dpc_takes names few = unless_takes dash (dpc_takes names few)
 
+-- a field that is read as a rundown routine is a dash for none, or the name of that routine
 pub rundown_takes : (names : NameLists) → AreFew names →
     Takes (read_rundown names) (show_unless dash (show_routine names)) (λ o. IfSome o (λ r. r.0 < length names.routines))
 rundown_takes names few = unless_takes dash (routine_takes names few)
 
+-- a field that is read as a new name is that name, well formed and not yet the name of a thing
 pub new_name_takes : (names : NameLists) → Takes (new_name names) (λ f. f) (λ f. (is_name f ≡ true) × (is_some (meaning f names) ≡ false))
 new_name_takes names = record {
   shown = λ f x e. (go f x (is_name f) (is_some (meaning f names)) refl refl e).0;

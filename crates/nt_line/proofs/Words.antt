@@ -16,6 +16,7 @@ use Rattle.nt_line.specs.Fits.{CommandFits}
 use Rattle.nt_line.proofs.FieldTexts.{same_text, find_passes}
 use Rattle.nt_line.proofs.Spelled.{command_keyword}
 
+-- a keyword that passes the test of a version was found, and is in that version
 in_version_ok : (v : ℕ) (o : Option Keyword) (w : Keyword) → in_version v o ≡ Some w → (o ≡ Some w) × (since w ≤ v)
 in_version_ok v None w e = absurd cc
 in_version_ok v (Some k) w e = go (nat_le (since k) v) refl e
@@ -24,6 +25,7 @@ in_version_ok v (Some k) w e = go (nat_le (since k) v) refl e
     go false is h = absurd cc
     go true is h = let same : k ≡ w = cc in (h, subst (λ (u : Keyword). since u ≤ v) same (leb-true (since k) v is))
 
+-- a field that is read as a keyword is the keyword's text
 word_is : (f : List ℕ) (w : Keyword) → word_of f ≡ Some w → f ≡ text_of w
 unfolding word_of
 word_is f w e = same_text f (text_of w) (find_passes (λ w. bytes_eq f (text_of w)) KEYWORDS w e)
@@ -32,6 +34,7 @@ word_is f w e = same_text f (text_of w) (find_passes (λ w. bytes_eq f (text_of 
 pub keyword_is : (v : ℕ) (f : List ℕ) (w : Keyword) → keyword_of v f ≡ Some w → (f ≡ text_of w) × (since w ≤ v)
 keyword_is v f w e = let o = in_version_ok v (word_of f) w e in (word_is f w o.0, o.1)
 
+-- a keyword's text is read as that keyword
 word_again : (w : Keyword) → word_of (text_of w) ≡ Some w
 unfolding word_of
 word_again keyword.Version = refl
@@ -76,6 +79,7 @@ word_again (keyword.Call verb.Acquire) = refl
 word_again (keyword.Call verb.Unlock) = refl
 word_again (keyword.Call verb.Note) = refl
 
+-- a keyword's text is read as that keyword in each version that has it
 pub keyword_again : (v : ℕ) (w : Keyword) → since w ≤ v → keyword_of v (text_of w) ≡ Some w
 keyword_again v w le = rw (word_again w, le-leb (since w) v le) refl
 
@@ -84,6 +88,7 @@ pub record HasWords (names : NameLists) (version : ℕ) : Type 0 where
   pub from : 1 ≤ version
   pub no_locks : version ≤ 1 → length names.locks ≡ 0
 
+-- if there is a lock with a name, the version is 2 or later
 pub lock_since : (names : NameLists) (version k : ℕ) → HasWords names version → k < length names.locks → 2 ≤ version
 lock_since names zero k has lt = let one = has.from in absurd (omega (arith, one))
 lock_since names (suc zero) k has lt = let none = has.no_locks (omega arith) in absurd (omega (arith, none, lt))

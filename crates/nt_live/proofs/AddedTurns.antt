@@ -20,14 +20,17 @@ use Rattle.nt_live.specs.Gathered.{GoesByRobin}
 abbrev pub past_at : ℕ → List Event → List Event
 past_at n events = reverse (take n events)
 
+-- the past up to one event more is that event put on the past before it
 pub past_more : (events : List Event) (n : ℕ) (e : Event) → n < length events → e ≡ get_or events n e → past_at (n + 1) events ≡ e ∷ past_at n events
 past_more events n e b h =
     ap reverse (take_more events n e b ∙ ap (λ (x : Event). take n events ++ x ∷ []) (sym h))
     ∙ reverse-append (take n events) (e ∷ [])
 
+-- the past at the end of the events is all of them, the newest first
 pub past_whole : (events : List Event) (n : ℕ) → length events ≤ n → past_at n events ≡ reverse events
 past_whole events n h = ap reverse (take_all n events h)
 
+-- what is left of a run without its newest events is a run
 run_before : (s : Script) (limit : ℕ) (front past : List Event) → IsRun s limit (front ++ past) → IsRun s limit past
 run_before s limit [] past r = r
 run_before s limit (x ∷ front) past r = run_before s limit front past r.1

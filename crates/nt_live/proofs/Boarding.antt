@@ -26,9 +26,11 @@ use Rattle.nt_live.specs.Workers.{AreAsked, IsAtWork, IsWorker, KnowsSeen, Worke
 
 -- ---- one worker
 
+-- the empty list has no element, so one in it gives anything
 nothing : {A B : Type 0} (x : A) → Contains [] x → B
 nothing x h = let l = h.1 in absurd (omega arith)
 
+-- all requests of a worker with no events are known, as there are none
 none_asked : (s : Script) (p : CpuNo) (v : View) → AreAsked s p v []
 none_asked s p v m past t q c i j h = go t.0 t.1
   where
@@ -36,6 +38,7 @@ none_asked s p v m past t q c i j h = go t.0 t.1
     go [] e = absurd cc
     go (x ∷ xs) e = absurd cc
 
+-- a new worker of a processor of the script is at work, with no events
 new_at_work : (s : Script) (limit : ℕ) (p : CpuNo) → p.0 < s.cpus → IsAtWork s limit (new_worker s limit p)
 new_at_work s limit p h = record {
   script = refl;
@@ -63,6 +66,7 @@ no_words s = record {
   told = λ x p c. 0;
 }
 
+-- a fresh pass knows all that a new worker of a processor of the script has seen
 new_knows : (s : Script) (limit : ℕ) (p : CpuNo) → p.0 < s.cpus → KnowsSeen (new_worker s limit p).cpu (fresh 1)
 unfolding no_words
 new_knows s limit p b m =
@@ -78,6 +82,7 @@ new_knows s limit p b m =
     })) (λ e. omega arith) in
     record { known = h.known; below = h.below; named = h.named }
 
+-- each entry of a fresh pass is listed, as it has none
 new_listed : AreListed (fresh 1)
 new_listed e h lane i = nothing e h
 
@@ -101,9 +106,11 @@ pub record AreFirst (s : Script) (limit n : ℕ) (ws : List WorkerState) : Type 
   pub count : length ws ≡ n
   pub each : (k : ℕ) (d : WorkerState) → k < n → get_or ws k d ≡ new_worker s limit (cpu k)
 
+-- the empty list holds the workers of the processors below zero
 pub none_first : (s : Script) (limit : ℕ) → AreFirst s limit 0 []
 none_first s limit = record { count = refl; each = λ k d h. absurd (omega arith) }
 
+-- the workers of the first n processors and a new one for the next are those of the first n + 1
 pub one_first : (s : Script) (limit n : ℕ) (ws : List WorkerState) (w : WorkerState) → AreFirst s limit n ws → w ≡ new_worker s limit (cpu n) →
     AreFirst s limit (n + 1) (ws ++ w ∷ [])
 one_first s limit n ws w a e = record {
@@ -114,6 +121,7 @@ one_first s limit n ws w a e = record {
       (λ ni. let b = a.count in let j : k < n = omega arith in get_or_append_left ws (w ∷ []) d k (omega arith) ∙ a.each k d j);
 }
 
+-- new workers for as many processors as the script has are the workers opened for the script
 pub all_opened : (s : Script) (limit n : ℕ) (ws : List WorkerState) → AreFirst s limit n ws → n ≡ s.cpus → AreOpened s limit ws
 all_opened s limit n ws a e = record { count = a.count ∙ e; each = λ k d h. a.each k d (omega arith) }
 
@@ -127,15 +135,18 @@ new_state s t limit turns p e f = ap (λ (x : Script). (new_worker x limit p).cp
 pub part_fresh : (v w : View) (n : ℕ) → v ≡ fresh n → w ≡ telling v 1 [] → w ≡ fresh 1
 part_fresh v w n e h = h ∙ ap (λ (x : View). telling x 1 []) e
 
+-- a pass that did nothing and gave away one of its parts is one that did nothing with a part less
 pub rest_fresh : (v w : View) (n k : ℕ) → v ≡ fresh n → w ≡ keeping v (v.parts - 1) [] → n ≡ k + 1 → w ≡ fresh k
 rest_fresh v w n k e h l =
     let d : n - 1 ≡ k = omega arith in
     h ∙ (ap (λ (x : View). keeping x (x.parts - 1) []) e ∙ ap (λ (x : ℕ). fresh x) d)
 
+-- a pass that did nothing and has some parts has as many as each number equal to that
 pub fresh_by : (v : View) (m n : ℕ) → v ≡ fresh m → m ≡ n → v ≡ fresh n
 fresh_by v m n e h = e ∙ ap (λ (x : ℕ). fresh x) h
 
 -- ---- the processors
 
+-- a script that fits has at least one processor
 pub some_cpus : (s : Script) → IsTrue (fits s) → 1 ≤ s.cpus
 some_cpus s h = grind (arith, nat_tests)

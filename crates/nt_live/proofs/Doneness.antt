@@ -116,6 +116,7 @@ asked_used s p c n past f l w =
 
 -- ---- settled
 
+-- a table of answers is all true if the answer is at each of its places
 table_all : (k n : ℕ) (f : ℕ → Bool) → ((i : ℕ) → i < n → f (k + i) ≡ true) → list_all (λ b. b) (table_from k n f) ≡ true
 unfolding table_from
 table_all k zero f h = refl
@@ -124,10 +125,12 @@ table_all k (suc n) f h =
     let here : f k ≡ true = rw e at (h 0 (omega arith)) in
     rw here (table_all (suc k) n f (λ i l. let e : k + suc i ≡ suc k + i = omega arith in rw e at (h (suc i) (omega arith))))
 
+-- a disjunction is true if its second part is
 second_yes : (a b : Bool) → b ≡ true → (a || b) ≡ true
 second_yes true b h = refl
 second_yes false b h = h
 
+-- a conjunction is true if both parts are
 both_yes : (a b : Bool) → a ≡ true → b ≡ true → (a && b) ≡ true
 both_yes true b h k = k
 both_yes false b h k = cc
@@ -176,6 +179,7 @@ module _ (s : Script) (limit : ℕ) (v : View) (mine : CpuNo → List Numbered) 
   done p b (inl c) = first_yes _ _ (ap (is_cut limit) (sym (own p)) ∙ c)
   done p b (inr r) = second_yes _ _ (both_yes _ _ (ap is_still (sym (own p)) ∙ r.0) (all_seen p b r.1))
 
+-- if no processor has more to do by a pass that knows all events, the run of these events is settled
 pub all_done_settles : AllDoneSettles
 all_done_settles s limit v mine n h fit together whole all =
     table_all 0 s.cpus (λ p. is_done_with s limit (cpu p) (events h))

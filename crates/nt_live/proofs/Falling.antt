@@ -19,16 +19,20 @@ abbrev pub below : ℕ → List Numbered → List Numbered
 below k [] = []
 below k (m ∷ ms) = if nat_lt m.number k then (m ∷ ms) else below k ms
 
+-- if the newest event's number is below a bound, the events below it are the whole list
 below_yes : (k : ℕ) (m : Numbered) (ms : List Numbered) → m.number < k → below k (m ∷ ms) ≡ m ∷ ms
 below_yes k m ms h = ap (λ (b : Bool). if b then (m ∷ ms) else below k ms) (lt-ltb m.number k h)
 
+-- if the newest event's number is not below a bound, the events below it are those of the rest
 below_no : (k : ℕ) (m : Numbered) (ms : List Numbered) → k ≤ m.number → below k (m ∷ ms) ≡ below k ms
 below_no k m ms h = ap (λ (b : Bool). if b then (m ∷ ms) else below k ms) (le-ltb m.number k h)
 
+-- no event of a list has a number below zero
 pub below_zero : (ms : List Numbered) → below 0 ms ≡ []
 below_zero [] = refl
 below_zero (m ∷ ms) = below_no 0 m ms (omega arith) ∙ below_zero ms
 
+-- if all events of a list have numbers below a bound, those below the bound are the whole list
 pub below_all : (k : ℕ) (ms : List Numbered) → AreBelow k ms → below k ms ≡ ms
 below_all k [] h = refl
 below_all k (m ∷ ms) h = below_yes k m ms (h m (in_first m ms))
@@ -75,15 +79,18 @@ tail_at (x ∷ ms) m h = go (first_or_rest x ms m h) (λ r. tail_at ms m r)
     go (inl e) more = (ms, ([], ap (λ (z : Numbered). z ∷ ms) (sym e)))
     go (inr r) more = let t = more r in (t.0, (x ∷ t.1.0, ap (λ (zs : List Numbered). x ∷ zs) t.1.1))
 
+-- no list with an element is an end of the empty list
 pub no_tail : (m : Numbered) (past : List Numbered) → IsTail (m ∷ past) [] → ⊥
 no_tail m past ([], e) = cc
 no_tail m past (x ∷ front, e) = cc
 
 module _ (s : Script) (limit : ℕ) (p : CpuNo) (v : View) where
+  -- the numbers of the events that one processor made fall from the newest to the oldest
   pub steps_fall : (ms : List Numbered) → AreSteps s limit p v ms → Falls ms
   steps_fall [] h = tt
   steps_fall (m ∷ ms) h = (h.0.above, steps_fall ms h.1)
 
+  -- an event inside a processor's list is a step of the processor after those before it
   pub step_at : (front : List Numbered) (m : Numbered) (past : List Numbered) → AreSteps s limit p v (front ++ m ∷ past) → IsStep s limit p v m past
   step_at [] m past h = h.0
   step_at (x ∷ front) m past h = step_at front m past h.1

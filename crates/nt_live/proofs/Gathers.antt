@@ -16,6 +16,7 @@ use Rattle.nt_live.specs.Merging.{IsWorked}
 use Rattle.nt_live.specs.Teams.{IsTeam}
 use Rattle.nt_live.specs.Workers.{WorkerState}
 
+-- a history goes on from itself by no turns of the robin rule
 pub stays : (s : Script) (limit : ℕ) (h : List Event) → GoesByRobin s limit h h
 stays s limit [] = refl
 stays s limit (e ∷ past) = inl refl
@@ -25,6 +26,7 @@ pub asked : (s t : Script) (limit n : ℕ) (es : List Event) → t ≡ s → n �
 asked s t limit n es a b r =
     subst (λ (z : Script). IsRun z n (reverse es)) (sym a) (subst (λ (k : ℕ). IsRun s k (reverse es)) (sym b) r)
 
+-- a settled run by robin turns behind a worked run with its lanes' pieces is gathered with those pieces
 pub gathered_with : (s t : Script) (limit n : ℕ) (ws : List WorkerState) (es : List Event) (ps : List Piece) (h : List Event) → t ≡ s → n ≡ limit →
     IsWorked s limit ws (reverse es) → ArePieces s (reverse es) ps → IsRun t n h → is_settled t n h ≡ true → GoesByRobin t n (reverse es) h →
     IsGatheredWith s limit ws ps h
@@ -39,6 +41,7 @@ gathered_with s t limit n ws es ps h a b w pieces run settled added = (
   pieces,
 )
 
+-- a history that is settled for a script and limit is so for equal ones
 pub asked_settled : (s t : Script) (limit n : ℕ) (h : List Event) → t ≡ s → n ≡ limit → is_settled s limit h ≡ true → is_settled t n h ≡ true
 asked_settled s t limit n h a b e =
     subst (λ (z : Script). is_settled z n h ≡ true) (sym a) (subst (λ (k : ℕ). is_settled s k h ≡ true) (sym b) e)

@@ -53,10 +53,12 @@ use Rattle.nt_live.specs.Workers.{AreAsked, AreBelow, AreSteps, AtLook, IsAtWork
 
 -- ---- what was done stays told
 
+-- looks that a pass had at a processor's requests stay had by a pass with at least its looks
 more_looks : (p : CpuNo) (x : Own) (v w : View) (n : ℕ) → ((l : Look) → Contains v.looks l → Contains w.looks l) → LooksAt p x v n → LooksAt p x w n
 more_looks p x v w n g l =
     record { answers = l.answers; behind = l.behind; below = l.below; looked = λ c b. ⊎_elim (λ z. inl z) (λ k. inr (g _ k)) (l.looked c b) }
 
+-- the steps of a processor stay steps for a pass that knows more and has at least the same looks
 pub steps_later : (s : Script) (limit : ℕ) (p : CpuNo) (v w : View) (ms : List Numbered) → Grows v w →
     ((l : Look) → Contains v.looks l → Contains w.looks l) → AreSteps s limit p v ms → AreSteps s limit p w ms
 unfolding more_looks
@@ -75,6 +77,7 @@ steps_later s limit p v w (m ∷ ms) g k a = (
 
 -- ---- looks alone
 
+-- a pass that only looked or learned leaves its worker at work
 pub looks_keep_work : LooksKeepWork
 looks_keep_work s limit c v w looks at o =
     let old : (l : Look) → Contains v.looks l → Contains w.looks l =
@@ -97,6 +100,7 @@ looks_keep_work s limit c v w looks at o =
 
 -- ---- the words after looks
 
+-- a conjunction of three that is true has each part true
 both_of : (a m n : Bool) → (a && (m && n)) ≡ true → (a ≡ true) × (m ≡ true) × (n ≡ true)
 both_of true true true z = (refl, refl, refl)
 both_of true true false z = absurd cc
@@ -120,6 +124,7 @@ looks_never_fall n p answers v u a q k h =
 
 -- ---- the looks
 
+-- a look that is made is in the list of looks made of it
 one_look : (p : CpuNo) (k a : ℕ) → Contains (map look_back (look_if true p k a)) (look_of p k a)
 unfolding look_back
 one_look p k a = here (look_of p k a)
@@ -146,6 +151,7 @@ below_has p answers (suc n) k l h =
     go false e more =
         Contains-append_right (map look_back (looks_below p n answers)) _ _ (last (let f : n ≤ k = ltb-false k n e in omega (arith, f, l)))
 
+-- a pass with all looks made has looked at each class, unless the answer for it is 0
 looked_at : (p : CpuNo) (answers : List ℕ) (v u : WordsView) (looks : List Look) → AllLooked p answers v u →
     ((l : Look) → Contains (map look_back (looks_below p 15 answers)) l → Contains looks l) → (k : ℕ) → k < 16 →
     (value_at answers k ≡ 0) ⊎ Contains looks (look_of p k (value_at answers k))
@@ -273,6 +279,7 @@ AloneDid c answers e = ((is_behind c.own (value_at answers) ≡ true)
     × (event_at c.script c.cpu (LookEvent (record { value = look_values c.own (value_at answers) })) c.own.frames ≡ e))
     ⊎ ((x : What) × (chosen_task c.script c.cpu c.own ≡ Some (Alone x)) × (event_at c.script c.cpu x c.own.frames ≡ e))
 
+-- an event that a processor makes alone is a look at what rose or a task it chose, and the processor is not cut
 pub alone_did : (c : CpuState) (answers : List ℕ) (e : Event) → local_gives c answers ≡ LocalDid e → (is_cut c.limit c.own ≡ false) × AloneDid c answers e
 unfolding AloneDid
 alone_did c answers e h = cut (is_cut c.limit c.own) refl h
@@ -297,6 +304,7 @@ alone_did c answers e h = cut (is_cut c.limit c.own) refl h
 
 -- ---- the law
 
+-- an advance of a worker's processor by an event keeps the worker at work, if the pass only grows
 keeps : (m o : Marks) (c d : CpuState) (v w : View) (answers : List ℕ) (u : WordsView) (e : Event) → cpus_of m ≡ c.script.cpus →
     IsAtWork c.script c.limit (record { cpu = c; view = v }) → AreLooked c answers (words_of m v) u →
     Advanced c d answers (λ n e st f. FoundBy c.script w n e st f) (Did e) u (words_of o w) → Grows v w →
@@ -352,5 +360,6 @@ advances_keep s limit m o c d v w answers u e cpus at l a g =
     (λ cpus at a. subst (λ (limit : ℕ). IsAtWork c.script limit (record { cpu = c; view = v }) → IsAtWork c.script limit (record { cpu = d; view = w }))
     at.limit_is (λ at. keeps m o c d v w answers u e cpus at l a g) at) cpus at a
 
+-- an advance of a worker's processor that made an event leaves the worker at work
 pub advances_keep_work : AdvancesKeepWork
 advances_keep_work s limit m c d v w answers u e cpus at l a g = advances_keep s limit m m c d v w answers u e cpus at l a g

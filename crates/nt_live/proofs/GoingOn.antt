@@ -9,12 +9,14 @@ use Rattle.nt_live.specs.Rounds.{GoOn}
 use Rattle.nt_live.specs.Teams.{AreOneEach}
 use Rattle.nt_live.specs.Workers.{GoesOnFrom, WorkerState}
 
+-- workers that do nothing go on from themselves
 pub go_same : (ws : List WorkerState) → GoOn ws ws
 go_same ws = record {
   count = refl;
   each = λ k d e l. subst (λ (w : WorkerState). GoesOnFrom (get_or ws k d) w) (get_or_default ws k d e l) (goes_same (get_or ws k d));
 }
 
+-- workers that go on twice in a row go on from the first to the last
 pub go_through : (us vs ws : List WorkerState) → GoOn us vs → GoOn vs ws → GoOn us ws
 go_through us vs ws g h =
     let count = g.count in

@@ -27,6 +27,7 @@ use Rattle.nt_live.specs.Workers.{AreMade, AreSteps, all_drawn, all_marks, asks_
 
 -- ---- a view that has and knows all that another has and knows
 
+-- two passes joined have and know all that the first had and knew
 pub both_left : (v w : View) → Covers v (both v w)
 both_left v w = record {
   entries = λ e h. Contains-append_left v.entries w.entries e h;
@@ -35,6 +36,7 @@ both_left v w = record {
   least = λ u. let b = reach_both u v w in omega (arith, b);
 }
 
+-- two passes joined have and know all that the second had and knew
 pub both_right : (v w : View) → Covers w (both v w)
 both_right v w = record {
   entries = λ e h. Contains-append_right v.entries w.entries e h;
@@ -43,16 +45,19 @@ both_right v w = record {
   least = λ u. let b = reach_both u v w in omega (arith, b);
 }
 
+-- lanes that a pass found an event made on are found so by each pass that covers it
 on_later : (s : Script) (v w : View) (n : ℕ) (e : Event) (st : Stand) (f : Found) (xs : List Lane) → Covers v w →
     AreFoundOn s v n e st f xs → AreFoundOn s w n e st f xs
 on_later s v w n e st f [] g h = tt
 on_later s v w n e st f (x ∷ xs) g h =
     ((h.0.0, h.0.1, (h.0.2.0, g.prefixes h.0.2.0 h.0.2.1, h.0.2.2, h.0.2.3)), on_later s v w n e st f xs g h.1)
 
+-- an event that a pass found is found by each pass that covers it
 found_later : (s : Script) (v w : View) (n : ℕ) (e : Event) (st : Stand) (f : Found) → Covers v w → FoundBy s v n e st f → FoundBy s w n e st f
 found_later s v w n e st f g h =
     record { drawn = g.entries _ h.drawn; threads = h.threads; named = h.named; on = on_later s v w n e st f _ g h.on }
 
+-- the steps of a processor's events by a pass are steps by each pass that covers it
 steps_later : (s : Script) (limit : ℕ) (p : CpuNo) (v w : View) (ms : List Numbered) → Covers v w → AreSteps s limit p v ms → AreSteps s limit p w ms
 steps_later s limit p v w [] g a = tt
 steps_later s limit p v w (m ∷ ms) g a = (
@@ -77,6 +82,7 @@ steps_later s limit p v w (m ∷ ms) g a = (
   steps_later s limit p v w ms g a.1,
 )
 
+-- the events that a processor made stay its made events for a pass that has and knows more
 pub made_later : (s : Script) (limit : ℕ) (p : CpuNo) (v w : View) (ms : List Numbered) → Covers v w → AreMade s limit p v ms → AreMade s limit p w ms
 made_later s limit p v w ms g a = record {
   steps = steps_later s limit p v w ms g a.steps;
@@ -86,12 +92,15 @@ made_later s limit p v w ms g a = record {
 
 -- ---- the entries and marks of a processor's events
 
+-- no element is in an empty list, so anything follows if one is
 nothing_in : {A B : Type 0} (x : A) → Contains [] x → B
 nothing_in x h = absurd (let l : h.0 < 0 = h.1 in omega (arith, l))
 
+-- an end of a list is an end of the list with one more in front
 longer : {A : Type 0} (y : A) (xs ys : List A) → IsTail xs ys → IsTail xs (y ∷ ys)
 longer y xs ys t = (y ∷ t.0, ap (λ zs. y ∷ zs) t.1)
 
+-- a list is an end of itself
 whole_tail : {A : Type 0} (xs : List A) → IsTail xs xs
 whole_tail xs = ([], refl)
 
@@ -101,6 +110,7 @@ record IsEntryOf (s : Script) (p : CpuNo) (ms : List Numbered) (e : Entry) : Typ
   pub is_in : IsTail (event ∷ before) ms
   pub is : e ≡ drawn_of s p event before
 
+-- each entry that a processor drew is the entry of one of its events
 entry_of : (s : Script) (p : CpuNo) (ms : List Numbered) (e : Entry) → Contains (all_drawn s p ms) e → IsEntryOf s p ms e
 entry_of s p [] e h = nothing_in e h
 entry_of s p (m ∷ ms) e h = go (entry_of s p ms e) (Contains-push_cases (all_drawn s p ms) (drawn_of s p m ms) e h)
@@ -116,6 +126,7 @@ record IsMarkOf (s : Script) (p : CpuNo) (ms : List Numbered) (k : Mark) : Type 
   pub number : k.number ≡ event.number
   pub asks : asks_then s p event before k.cpu k.class
 
+-- each mark of an event's asks has the event's number and is for one of the asks
 mark_asks : (n : ℕ) (asks : List Ask) (k : Mark) → Contains (map (mark_for n) asks) k → (k.number ≡ n) × (list_any (is_ask k.cpu k.class) asks ≡ true)
 mark_asks n [] k h = nothing_in k h
 mark_asks n (a ∷ asks) k h = go (mark_asks n asks k) (Contains-append_cases (mark_for n a ∷ []) (map (mark_for n) asks) k h)
@@ -143,6 +154,7 @@ mark_asks n (a ∷ asks) k h = go (mark_asks n asks k) (Contains-append_cases (m
     go more (inl i) = here (only i)
     go more (inr i) = let r = more i in (r.0, later r.1 (is_ask k.cpu k.class a) refl)
 
+-- each mark that a processor made is the mark of one of its events
 mark_of_event : (s : Script) (p : CpuNo) (ms : List Numbered) (k : Mark) → Contains (all_marks s p ms) k → IsMarkOf s p ms k
 mark_of_event s p [] k h = nothing_in k h
 mark_of_event s p (m ∷ ms) k h = go (mark_of_event s p ms k) (Contains-append_cases (all_marks s p ms) (marks_of s p m ms) k h)
@@ -157,17 +169,21 @@ mark_of_event s p (m ∷ ms) k h = go (mark_of_event s p ms k) (Contains-append_
 
 -- ---- one worker more
 
+-- the lists of events with the list of one processor replaced
 pub with_mine : (CpuNo → List Numbered) → CpuNo → List Numbered → CpuNo → List Numbered
 with_mine mine p ms q = if q.0 == p.0 then ms else mine q
 
+-- after a processor's list is replaced, the processor has the new list
 pub mine_here : (mine : CpuNo → List Numbered) (p : CpuNo) (ms : List Numbered) → with_mine mine p ms p ≡ ms
 unfolding with_mine
 mine_here mine p ms = let e : (p.0 == p.0) ≡ true = grind arith in rw e refl
 
+-- after one processor's list is replaced, each other processor has its old list
 pub mine_else : (mine : CpuNo → List Numbered) (p : CpuNo) (ms : List Numbered) (q : CpuNo) → (q.0 == p.0) ≡ false → with_mine mine p ms q ≡ mine q
 unfolding with_mine
 mine_else mine p ms q e = rw e refl
 
+-- processors whose numbers test as equal are the same
 same_cpu : (p q : CpuNo) → (q.0 == p.0) ≡ true → q ≡ p
 same_cpu p q e = ap (λ (n : ℕ). cpu n) (eqb-true q.0 p.0 e)
 
@@ -199,6 +215,7 @@ module _ (s : Script) (limit : ℕ) (v u : View) (mine : CpuNo → List Numbered
   new_tail : (xs : List Numbered) (m : Numbered) → IsTail (m ∷ xs) ms → IsTail (m ∷ xs) (with_mine mine p ms p)
   new_tail xs m t = subst (λ (zs : List Numbered). IsTail (m ∷ xs) zs) (sym (mine_here mine p ms)) t
 
+  -- a pass that knows all events, joined with that of a processor that had none, knows that one's events too
   pub joined : AreTogether s limit v mine → p.0 < s.cpus → AreMade s limit p u ms → u.entries ≡ all_drawn s p ms → u.marks ≡ all_marks s p ms →
       AreTogether s limit (both v u) (with_mine mine p ms)
   joined a inside made entries marks = record {
@@ -226,6 +243,7 @@ module _ (s : Script) (limit : ℕ) (v u : View) (mine : CpuNo → List Numbered
 abbrev pub nothing_mine : CpuNo → List Numbered
 nothing_mine q = []
 
+-- the pass of one worker alone knows the events of its processor, with no events of others
 pub alone : (s : Script) (limit : ℕ) (u : View) (p : CpuNo) (ms : List Numbered) → p.0 < s.cpus → AreMade s limit p u ms → u.entries ≡ all_drawn s p ms →
     u.marks ≡ all_marks s p ms → AreTogether s limit u (with_mine nothing_mine p ms)
 alone s limit u p ms inside made entries marks = record {

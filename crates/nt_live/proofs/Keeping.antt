@@ -15,6 +15,7 @@ use Rattle.nt_mark.specs.Names.{pass_view}
 use Rattle.nt_live.specs.Turning.{IsAdvanced, IsSeated, IsTakenApart, made_in}
 use Rattle.nt_live.specs.Workers.{GoesOnFrom, HasWorked, IsWorker, LookedLast, WorkerState, pairs_of, view_in}
 
+-- passes that are equal as options are the same pass
 same_pass : {p q : Pass} → Some p ≡ Some q → p ≡ q
 same_pass h = cc
 
@@ -25,6 +26,7 @@ seated_of table s limit c pass list p w e =
     subst (λ (x : Pass). IsSeated table s limit c x) (same_pass (sym w.pass_is ∙ e))
     (record { at = w.at; listed = w.listed; work = w.work; knows = w.knows })
 
+-- the list that stands in a worker is the pairs of number and event of its pass
 listed_of : (table : TableId) (s : Script) (limit : ℕ) (c : CpuState) (pass : Option Pass) (list : List (ℕ × Event)) (p : Pass) →
     IsWorker table s limit c pass list → pass ≡ Some p → list ≡ pairs_of (pass_view p)
 listed_of table s limit c pass list p w e =
@@ -55,6 +57,7 @@ worker_again table s limit c d pass list new p q did w e a n = record {
 
 -- ---- turns one after another
 
+-- a worker that did nothing goes on from itself
 pub goes_same : (w : WorkerState) → GoesOnFrom w w
 goes_same w = record {
   script = refl;
@@ -67,6 +70,7 @@ goes_same w = record {
   looks_are = sym (append-nil w.view.looks);
 }
 
+-- a worker that goes on twice in a row goes on from the first state to the last
 pub goes_through : (u v w : WorkerState) → GoesOnFrom u v → GoesOnFrom v w → GoesOnFrom u w
 goes_through u v w g h = record {
   script = h.script ∙ g.script;

@@ -21,6 +21,7 @@ use Rattle.nt_lane_record.specs.Held.{first_state, last_shown}
 
 -- ---- lanes by their numbers
 
+-- a lane whose list is kept is the same as itself
 same_itself : (x : Lane) → same_lane x x ≡ true
 same_itself (ObjectLane d) = eq-eqb d.0 d.0 refl
 same_itself (QueueLane p) = eq-eqb p.0 p.0 refl
@@ -80,6 +81,7 @@ kept_notes x (k ∷ ks) = if keeper_lane k == x then keeper_notes k else kept_no
 abbrev pub IsOf : ℕ → List Keeper → Type 0
 IsOf x ks = (k : Keeper) × Contains ks k × (keeper_lane k ≡ x) × (kept_notes x ks ≡ keeper_notes k)
 
+-- if there is a keeper of a lane, the list found for the lane is that of some keeper of it
 pub kept_found : (x : ℕ) (ks : List Keeper) (k : Keeper) → Contains ks k → keeper_lane k ≡ x → IsOf x ks
 kept_found x [] k h is = absurd (in_none k h)
 kept_found x (y ∷ ks) k h is = go (keeper_lane y == x) refl (first_or_rest y ks k h) (λ r. kept_found x ks k r is)
@@ -95,6 +97,7 @@ kept_found x (y ∷ ks) k h is = go (keeper_lane y == x) refl (first_or_rest y k
         absurd (cc)
     go false e (inr r) more = let o = more r in (o.0, in_rest y ks o.0 o.1, o.2, pick false e ∙ o.3)
 
+-- the list found for a lane is empty or is that of some keeper of the lane
 pub kept_cases : (x : ℕ) (ks : List Keeper) → (kept_notes x ks ≡ []) ⊎ IsOf x ks
 kept_cases x [] = inl refl
 kept_cases x (y ∷ ks) = go (keeper_lane y == x) refl (kept_cases x ks)
@@ -114,26 +117,31 @@ abbrev pub images : LaneState → List Note → List Noted
 images x [] = []
 images x (n ∷ ns) = record { number = n.number; state = first_state x n.states } ∷ images (first_state x n.states) ns
 
+-- the states that two joined lists of notes show are those of the first and then those of the second from there
 pub images_append : (x : LaneState) (ms ns : List Note) → images x (ms ++ ns) ≡ images x ms ++ images (last_shown x ms) ns
 images_append x [] ns = refl
 images_append x (m ∷ ms) ns =
     ap (λ (l : List Noted). record { number = m.number; state = first_state x m.states } ∷ l) (images_append (first_state x m.states) ms ns)
 
+-- the state last noted of what a list of notes shows is the state that the notes show last
 pub images_last : (x : LaneState) (ns : List Note) → last_noted x (images x ns) ≡ last_shown x ns
 images_last x [] = refl
 images_last x (n ∷ ns) = images_last (first_state x n.states) ns
 
+-- the numbers of a strictly increasing list after the first are strictly increasing
 rest_rises : (x : ℕ) (xs : List ℕ) → IsStrictlyIncreasing (x ∷ xs) → IsStrictlyIncreasing xs
 rest_rises x xs h k l =
     let e : suc k + 1 ≡ suc (k + 1) = omega arith in
     subst (λ (j : ℕ). get_or (x ∷ xs) (suc k) 0 < get_or (x ∷ xs) j 0) e (h (suc k) (omega (arith, l)))
 
+-- if the numbers of notes rise, so do those of what they show
 pub images_rise : (x : LaneState) (ns : List Note) → IsStrictlyIncreasing (note_numbers ns) → Rises (images x ns)
 images_rise x [] h = tt
 images_rise x (n ∷ []) h = tt
 images_rise x (n ∷ m ∷ ns) h =
     (h 0 (omega arith), images_rise (first_state x n.states) (m ∷ ns) (rest_rises n.number (note_numbers (m ∷ ns)) h))
 
+-- all that a list of notes shows has the number of one of the notes
 pub images_has : (x : LaneState) (ns : List Note) (y : Noted) → Contains (images x ns) y → (n : Note) × Contains ns n × (n.number ≡ y.number)
 images_has x [] y h = absurd (in_none y h)
 images_has x (n ∷ ns) y h = ⊎_elim (λ e. (n, in_first n ns, ap (λ (z : Noted). z.number) (sym e)))

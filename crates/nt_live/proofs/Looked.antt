@@ -56,6 +56,7 @@ module _ (s : Script) (limit : ℕ) (v : View) (mine : CpuNo → List Numbered) 
     classes c zero e = tt
     classes c (suc j) e = (one_class c (omega (arith, e)), classes (suc c) j (omega (arith, e)))
 
+  -- if all looks of a pass saw what was asked, a processor's look looks back at requests made before it in the run
   pub looks_back : (p : CpuNo) (x : Own) (m : Numbered) → AtLook s p x v m → LooksBack s h p x m
   looks_back p x m k = record {
     rises = record { value = look_values x (value_at k.0.answers) };

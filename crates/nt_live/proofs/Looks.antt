@@ -16,6 +16,7 @@ use Rattle.nt_mark.proofs.Reach.{greatest_append}
 use Rattle.nt_live.proofs.Turning.{not_behind}
 use Rattle.nt_live.specs.Teams.{HasNoMore, HasLooked}
 
+-- a pass that did nothing has done no more than look
 pub same_look : (v : View) → HasLooked v v
 same_look v = record {
   parts = refl;
@@ -24,6 +25,7 @@ same_look v = record {
   covers = record { entries = λ e h. h; looks = λ l h. h; prefixes = λ k h. h; least = λ u. omega arith };
 }
 
+-- a pass that did no more than look twice in a row did no more than look
 pub looks_through : (u v w : View) → HasLooked u v → HasLooked v w → HasLooked u w
 looks_through u v w g h = record {
   parts = h.parts ∙ g.parts;
@@ -37,6 +39,7 @@ looks_through u v w g h = record {
   };
 }
 
+-- a pass after one look at a class of a processor has done no more than look
 pub one_look : (v w : View) (p : CpuNo) (class value : ℕ) → w ≡ looked v p class value → HasLooked v w
 one_look v w p class value e = subst (λ (z : View). HasLooked v z) (sym e) (record {
   parts = refl;
@@ -78,6 +81,7 @@ pub no_more_before : (limit : ℕ) (v w : View) (c : CpuState) → HasLooked v w
 no_more_before limit v w c l h =
     ⊎_elim (λ k. inl k) (λ k. inr (k.0, λ q b u. let a = k.1 q b u in let r = l.covers.least (request_word c.cpu q) in omega (arith, a, r))) h
 
+-- a truth value whose negation is true is false
 off : (b : Bool) → not b ≡ true → b ≡ false
 off true h = cc
 off false h = refl
@@ -100,6 +104,7 @@ still_then limit v c p answers behind at rest is h least = inr (
 abbrev pub FirstDone : ℕ → View → List CpuState → ℕ → Type 0
 FirstDone limit v cpus n = (k : ℕ) (c : CpuState) → k < n → HasNoMore limit v (get_or cpus k c)
 
+-- if the first processors have no more to do, and by a later look the next has none, then all up to it have none
 pub one_done : (limit : ℕ) (v w : View) (cpus : List CpuState) (n : ℕ) (x : CpuState) → n < length cpus → ((d : CpuState) → get_or cpus n d ≡ x) →
     HasLooked v w → HasNoMore limit w x → FirstDone limit v cpus n → FirstDone limit v cpus (n + 1)
 one_done limit v w cpus n x within is looks more old k d l = go (nat_lt k n) refl

@@ -33,6 +33,7 @@ pub numbers_are : (es : List Entry) → numbers_of (map (λ (e : Entry). (e.numb
 numbers_are [] = refl
 numbers_are (e ∷ es) = ap (λ (xs : List ℕ). e.number ∷ xs) (numbers_are es)
 
+-- a list of a pass's events has each number below its length once, if the pass's entries do
 each_once : (list : List (ℕ × Event)) (v : View) (n : ℕ) → list ≡ pairs_of v → n ≡ length v.entries → IsEachOnce n (entry_numbers v.entries) →
     (length list ≡ n) × IsEachOnce n (numbers_of list)
 each_once list v n is count once =
@@ -41,6 +42,7 @@ each_once list v n is count once =
       subst (λ (xs : List ℕ). IsEachOnce n xs) (sym numbers) once,
     )
 
+-- if a pass has each entry number below a count once, the list of its events has each number once
 pub once_in : (list : List (ℕ × Event)) (v : View) (n : ℕ) → list ≡ pairs_of v → n ≡ length v.entries → IsEachOnce n (entry_numbers v.entries) →
     IsEachOnce (length list) (numbers_of list)
 once_in list v n is count once =
@@ -75,9 +77,11 @@ module _ (s : Script) (p : Pass) (list : List (ℕ × Event)) (ks : List Keeper)
   alone : Shows p ks n lanes []
   alone = subst (Shows p ks n lanes) none shows
 
+  -- if one pass shows all and there are no others, each number of its list stands once
   pub once_alone : IsEachOnce (length list) (numbers_of list)
   once_alone = let h = alone in once_in list (pass_view p) n is h.0 h.1.0
 
+  -- if one pass shows all and there are no others, its events by number are merged with the pieces of the lanes
   pub merged_alone : (table : TableId) (ps : List Piece) (es : List Event) → ArePiecesOf table ps ks → ArePlaced list es → IsMerged s (pass_view p) es ps
   merged_alone table ps es lists h =
       let shut = alone in

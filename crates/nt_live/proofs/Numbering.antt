@@ -13,9 +13,11 @@ abbrev pub Stand : List (ℕ × Event) → List Event → ℕ → Type 0
 Stand list es n = (j : ℕ) (x : ℕ × Event) (d : Event) → j < n → get_or es (get_or list j x).0 d ≡ (get_or list j x).1
 
 module _ (list : List (ℕ × Event)) (once : IsEachOnce (length list) (numbers_of list)) where
+  -- the number of each event of a list with each number once is below its length
   pub below : (x : ℕ × Event) → Contains list x → x.0 < length list
   below x h = number_below (λ (y : ℕ × Event). y.0) (length list) list once x h
 
+  -- putting one event more at its number leaves the earlier events of the list at their numbers
   pub one_more : (es : List Event) (at : ℕ) (x : ℕ × Event) → at < length list → length es ≡ length list →
       ((d : ℕ × Event) → get_or list at d ≡ x) → Stand list es at → Stand list (set es x.0 x.1) (at + 1)
   one_more es at x l long is old j y d b = go ((get_or list j y).0 == x.0) refl
@@ -42,6 +44,7 @@ module _ (list : List (ℕ × Event)) (once : IsEachOnce (length list) (numbers_
           let other = not_at ne in
           get_or-set_other es x.0 (get_or list j y).0 x.1 d ne ∙ old j y d (omega (arith, b, other))
 
+  -- if the events were all put at their numbers, the list of events has each at its number
   pub all_placed : (es : List Event) → length es ≡ length list → Stand list es (length list) → ArePlaced list es
   all_placed es long stand = record {
     count = long;

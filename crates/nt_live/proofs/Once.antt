@@ -11,6 +11,7 @@ use Rattle.nt_mark.specs.Closing.{IsEachOnce}
 abbrev pub with_it : {A : Type 0} → (A → ℕ) → ℕ → List A → ℕ
 with_it {A} number k xs = sum_by (λ (a : A). at_one k (number a)) xs
 
+-- counting the things with a number is counting that number in the list of their numbers
 counted : {A : Type 0} (number : A → ℕ) (k : ℕ) (xs : List A) → count_by (λ x. x == k) (map number xs) ≡ with_it number k xs
 counted number k [] = refl
 counted {A} number k (x ∷ xs) =
@@ -19,6 +20,7 @@ counted {A} number k (x ∷ xs) =
     let c = sum_by-cons (λ (y : A). at_one k (number y)) x xs in
     omega (arith, a, b, c)
 
+-- if a list has an element with a number, at least one of its elements has that number
 pub at_least_one : {A : Type 0} (number : A → ℕ) (k : ℕ) (xs : List A) (a : A) → Contains xs a → number a ≡ k → 1 ≤ with_it number k xs
 at_least_one {A} number k xs a h is =
     let m = get_or-le-sum_by (λ (y : A). at_one k (number y)) xs h.0 a h.1 in
@@ -49,12 +51,14 @@ same_one {A} number k (x ∷ xs) few a b p q d e =
     go (inr h) (inr i) more = more h i
 
 module _ {A : Type 0} (number : A → ℕ) (n : ℕ) (xs : List A) (once : IsEachOnce n (map number xs)) where
+  -- each number below the bound is that of an element of the list
   pub one_with : (k : ℕ) → k < n → (a : A) × Contains xs a × (number a ≡ k)
   one_with k l =
       let c = counted number k xs in
       let o : count_by (λ x. x == k) (map number xs) ≡ 1 = once k ∙ ap (λ (b : Bool). if b then 1 else 0) (lt-ltb k n l) in
       some_with number k xs (omega (arith, c, o))
 
+  -- at most one element of the list has a given number
   pub at_most_one : (k : ℕ) → with_it number k xs ≤ 1
   at_most_one k = go (nat_lt k n) (once k)
     where
@@ -62,6 +66,7 @@ module _ {A : Type 0} (number : A → ℕ) (n : ℕ) (xs : List A) (once : IsEac
       go true e = let c = counted number k xs in omega (arith, c, e)
       go false e = let c = counted number k xs in omega (arith, c, e)
 
+  -- the number of each element of the list is below the bound
   pub number_below : (a : A) → Contains xs a → number a < n
   number_below a h = go (nat_lt (number a) n) refl (once (number a))
     where
@@ -72,5 +77,6 @@ module _ {A : Type 0} (number : A → ℕ) (n : ℕ) (xs : List A) (once : IsEac
           let l = at_least_one number (number a) xs a h refl in
           absurd (omega (arith, c, l, o))
 
+  -- two elements of the list with the same number are the same
   pub the_one : (a b : A) → Contains xs a → Contains xs b → number a ≡ number b → a ≡ b
   the_one a b p q e = same_one number (number b) xs (at_most_one (number b)) a b p q e refl

@@ -25,6 +25,7 @@ module _ (s : Script) (limit : ℕ) (v : View) (mine : CpuNo → List Numbered) 
       go true e = ltb-true p.0 s.cpus e
       go false e = absurd (no_tail m past (subst (IsTail (m ∷ past)) (t.others p (ltb-false p.0 s.cpus e)) h))
 
+  -- each event of a processor's list is a step of the processor after those before it in the list
   pub step_in : (p : CpuNo) (m : Numbered) (past : List Numbered) → IsTail (m ∷ past) (mine p) → IsStep s limit p v m past
   step_in p m past h =
       step_at s limit p v h.0 m past (subst (AreSteps s limit p v) h.1 (t.made p (inside p m past h)).steps)

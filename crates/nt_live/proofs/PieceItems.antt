@@ -43,6 +43,7 @@ same_items (x ∷ xs) (y ∷ ys) e h =
     let rest : xs ≡ ys = same_items xs ys (tails e) (λ a b p q. h a b (in_rest x xs a p) (in_rest y ys b q)) in
     ap (λ (z : ℕ × Event). z ∷ xs) head ∙ ap (λ (zs : List (ℕ × Event)). y ∷ zs) rest
 
+-- mapping a reversed list is reversing the mapped list
 map-reverse : {A B : Type 0} (f : A → B) (xs : List A) → map f (reverse xs) ≡ reverse (map f xs)
 map-reverse f [] = refl
 map-reverse {A} {B} f (x ∷ xs) =
@@ -50,10 +51,12 @@ map-reverse {A} {B} f (x ∷ xs) =
     ∙ (map-append f (reverse xs) (x ∷ [])
     ∙ (ap (λ (ys : List B). ys ++ f x ∷ []) (map-reverse f xs) ∙ sym (reverse-append (f x ∷ []) (map f xs))))
 
+-- the numbers of pairs made of pieces' entries are the entries' numbers
 numbers_in : (es : List PieceEntry) → item_numbers (map pair_of es) ≡ map (λ e. e.number) es
 numbers_in [] = refl
 numbers_in (e ∷ es) = ap (λ (ns : List ℕ). e.number ∷ ns) (numbers_in es)
 
+-- the numbers of pairs made of pieces' entries, reversed, are the entries' numbers reversed
 numbers_back : (es : List PieceEntry) → item_numbers (reverse (map pair_of es)) ≡ reverse (map (λ e. e.number) es)
 numbers_back es = map-reverse (λ (e : ℕ × Event). e.0) (map pair_of es) ∙ ap (λ (ns : List ℕ). reverse ns) (numbers_in es)
 
@@ -110,6 +113,7 @@ module _ (s : Script) (limit : ℕ) (v : View) (mine : CpuNo → List Numbered) 
       same_items p.entries.items (reverse (map pair_of piece)) numbers
       (λ a b q r e. known_is k knows p.lane a (i.entries a q) b (All-contains Happened (reverse (map pair_of piece)) b all r) e)
 
+-- each list beside the keepers of closed lanes is its lane's piece of the history, with the events
 pub lists_are_pieces : ListsArePieces
 lists_are_pieces s limit v mine ks n h t c w table ps are knows i d l =
     let o = keeper_at table ps ks are i d l in

@@ -165,5 +165,6 @@ module _ (s : Script) (limit : ℕ) (v : View) (mine : CpuNo → List Numbered) 
     pub its_numbers : list ≡ reverse (map (λ e. e.number) (lane_piece s x (events h)))
     its_numbers = sym (below_all (length h) list inside) ∙ numbers [] h refl
 
+-- the list of a lane's keeper has the numbers of the lane's piece of the history that closed lanes show
 pub lanes_have_pieces : LanesHavePieces
 lanes_have_pieces s limit v mine ks n h t c w x fits k has of = its_numbers s limit v mine ks n h t c w x fits k has of

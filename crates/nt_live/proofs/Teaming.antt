@@ -46,6 +46,7 @@ module _ (s : Script) (limit : ℕ) (c : CpuState) (u : View) (work : IsAtWork s
       let z = number s limit c u work 0 e in
       mine_else nothing_mine c.cpu work.mine p (ne_eqb p.0 c.cpu.0 (λ q. absurd (omega (arith, z, q, l))))
 
+  -- the worker of processor zero alone is a team
   pub one_team : (list : List (ℕ × Event)) → list ≡ pairs_of u → IsTeam s limit (record { cpu = c; view = u } ∷ []) (c ∷ []) u list
   unfolding its_mine
   one_team list is = record {
@@ -115,6 +116,7 @@ module _ (s : Script) (limit : ℕ) (met : List WorkerState) (cpus : List CpuSta
           (itself s limit c u work k (e ∙ ap (λ (n : ℕ). cpu n) same) (cpus ++ c ∷ []) now_mine (λ d. get_or_at cpus c [] d k (omega (arith, count, same)))
           (mine_here t.mine c.cpu work.mine))
 
+  -- a team that the worker of the next processor meets is a team with it
   pub team_joined : IsTeam s limit (met ++ newcomer ∷ []) (cpus ++ c ∷ []) (both v u) (list ++ pairs_of u)
   unfolding now_mine
   team_joined = record {

@@ -14,38 +14,46 @@ use Rattle.nt_mark.specs.declared.view.Mark.{Mark}
 use Rattle.nt_mark.specs.declared.view.View.{View}
 use Rattle.nt_mark.specs.Views.{entry, look_of, mark_of}
 
+-- the entry of a pass that a told draw stands for
 entry_back : Draw → Entry
 entry_back d = record { number = d.number; event = d.event; lanes = d.lanes }
 
+-- the mark of a pass that a told mark stands for
 mark_back : MarkTold → Mark
 mark_back m = mark_of m.cpu m.class m.number
 
 unfoldable pub look_back : LookTold → Look
 look_back l = look_of l.cpu l.class l.value
 
+-- entries that are told and read back are those that were told
 entries_back : (es : List Entry) → map entry_back (map draw_told es) ≡ es
 unfolding entry_back
 entries_back [] = refl
 entries_back (e ∷ es) = ap (λ (l : List Entry). e ∷ l) (entries_back es)
 
+-- marks that are told and read back are those that were told
 marks_back : (ms : List Mark) → map mark_back (map mark_told ms) ≡ ms
 unfolding mark_back
 marks_back [] = refl
 marks_back (m ∷ ms) = ap (λ (l : List Mark). m ∷ l) (marks_back ms)
 
+-- looks that are told and read back are those that were told
 looks_back : (ls : List Look) → map look_back (map look_told ls) ≡ ls
 unfolding look_back
 looks_back [] = refl
 looks_back (l ∷ ls) = ap (λ (k : List Look). l ∷ k) (looks_back ls)
 
+-- looks that words tell are the same after they are turned into looks of a pass and told again
 pub looks_told : (ls : List LookTold) → map look_told (map look_back ls) ≡ ls
 unfolding look_back
 looks_told [] = refl
 looks_told (l ∷ ls) = ap (λ (k : List LookTold). l ∷ k) (looks_told ls)
 
+-- the told mark of an ask of the event of number n
 ask_mark : ℕ → Ask → MarkTold
 ask_mark n a = record { cpu = a.cpu; class = a.class; number = n }
 
+-- marking an event's asks adds their told marks at the end of the lists
 marked_all : (n : ℕ) (asks : List Ask) (l : Lists) → with_marks n asks (Some l) ≡ Some (record l { marks = l.marks ++ map (ask_mark n) asks })
 unfolding ask_mark
 marked_all n [] l = ap (λ (ms : List MarkTold). Some (record l { marks = ms })) (sym (append-nil l.marks))
@@ -53,14 +61,17 @@ marked_all n (a ∷ asks) l =
     marked_all n asks (record l { marks = l.marks ++ ask_mark n a ∷ [] })
     ∙ ap (λ (ms : List MarkTold). Some (record l { marks = ms })) (append_assoc l.marks (ask_mark n a ∷ []) (map (ask_mark n) asks))
 
+-- the told marks of an event's asks, read back, are the event's marks
 asks_back : (n : ℕ) (asks : List Ask) → map mark_back (map (ask_mark n) asks) ≡ map (mark_for n) asks
 unfolding ask_mark mark_back
 asks_back n [] = refl
 asks_back n (a ∷ asks) = ap (λ (l : List Mark). mark_of a.cpu a.class n ∷ l) (asks_back n asks)
 
+-- values that are equal as options are equal
 some_of : {A : Type 0} {a b : A} → Some a ≡ Some b → a ≡ b
 some_of h = cc
 
+-- a single told draw, read back, is the single entry of its number, event and lanes
 one_back : (d : Draw) → map entry_back (d ∷ []) ≡ entry d.number d.event d.lanes ∷ []
 unfolding entry_back
 one_back d = refl
@@ -71,6 +82,7 @@ pub record Told (v w : View) (n : ℕ) (e : Event) (lanes : List ℕ) (asks : Li
   pub marks : w.marks ≡ v.marks ++ map (mark_for n) asks
   pub looks_are : w.looks ≡ v.looks ++ map look_back looks
 
+-- where words tell a draw, marks and looks, the pass has just that entry and those marks and looks more
 pub told_lists : (v w : View) (n : ℕ) (e : Event) (lanes : List ℕ) (asks : List Ask) (looks : List LookTold) →
     Some (lists_of w) ≡ with_marks n asks (with_draw n e lanes (with_looks looks (Some (lists_of v)))) → Told v w n e lanes asks looks
 told_lists v w n e lanes asks looks h =
@@ -102,6 +114,7 @@ pub record ToldLooks (v w : View) (looks : List LookTold) : Type 0 where
   pub marks : w.marks ≡ v.marks
   pub looks_are : w.looks ≡ v.looks ++ map look_back looks
 
+-- where words tell looks alone, the pass has just those looks more and the same entries and marks
 pub told_looks : (v w : View) (looks : List LookTold) → Some (lists_of w) ≡ with_looks looks (Some (lists_of v)) → ToldLooks v w looks
 told_looks v w looks h =
     let is : lists_of w ≡ record (lists_of v) { looks = map look_told v.looks ++ looks } = some_of h in

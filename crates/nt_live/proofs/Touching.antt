@@ -29,6 +29,7 @@ pub stepped_before : (s : Script) (limit : ℕ) (front past : List Placed) → A
 stepped_before s limit [] past a = a
 stepped_before s limit (z ∷ front) past a = stepped_before s limit front past a.1
 
+-- lanes that were found as the placed events left them were found in their states after the history
 same_on : (s : Script) (f : Found) (past : List Placed) (states : (x : Lane) → left s x past ≡ lane_state s x (events past)) (xs : List Lane) →
     AreLeft s f past xs → SameOn s f.lanes (lanes_at s (events past)) xs
 same_on s f past states [] a = tt
@@ -51,6 +52,7 @@ module _ (s : Script) (limit : ℕ) (y : Placed) (past : List Placed) (a : AreSt
   runs : (t : ThreadNo) → running y.event.cpu (events past) ≡ Some t → (cpu_of s t).0 ≡ y.event.cpu.0
   runs = own_runs s limit y.event.cpu (events past) before.run
 
+  -- the lanes that an event touches by what its processor kept are those that it touches in the history
   pub lanes_met : what_lanes s (stand_in y.event.cpu (own_by s y.event.cpu (part y.event.cpu past))) y.event.what y.found.lanes
       ≡ lanes_of s y.event (events past)
   lanes_met =

@@ -144,6 +144,7 @@ pub record StaysAtWork (s : Script) (limit : ℕ) (c : CpuState) (v w : View) : 
   pub goes : GoesOnFrom (record { cpu = c; view = v }) (record { cpu = c; view = w })
   pub list : pairs_of w ≡ pairs_of v ++ []
 
+-- a worker whose pass only looked stays at work, goes on from before, and has no event more
 pub stays_at_work : (s : Script) (limit : ℕ) (c : CpuState) (v w : View) (looks : List Look) → IsAtWork s limit (record { cpu = c; view = v }) →
     OnlyLooked s v w looks → StaysAtWork s limit c v w
 stays_at_work s limit c v w looks at o = record {
@@ -163,6 +164,7 @@ stays_at_work s limit c v w looks at o = record {
 
 -- ---- what Quiet and Cut say
 
+-- if no element of a list passes a test, the first fails it and none of the rest passes it
 any_split : (p : ℕ → Bool) (x : ℕ) (xs : List ℕ) → list_any p (x ∷ xs) ≡ false → (p x ≡ false) × (list_any p xs ≡ false)
 any_split p x xs h = go (p x) (list_any p xs) refl refl h
   where
@@ -189,6 +191,7 @@ none_rises x a k (suc n) h i l =
     go zero l here more = let e : k ≡ k + 0 = omega arith in subst (λ (j : ℕ). a j ≤ value_at x.seen j) e here
     go (suc j) l here more = let e : suc k + j ≡ k + suc j = omega arith in subst (λ (j : ℕ). a j ≤ value_at x.seen j) e (more j (omega arith))
 
+-- a processor that is not behind what was looked has seen at least that value of each class
 pub not_behind : (x : Own) (answers : List ℕ) → is_behind x (value_at answers) ≡ false → (k : ℕ) → k < 16 → value_at answers k ≤ value_at x.seen k
 not_behind x answers h k l =
     let e : 0 + k ≡ k = omega arith in subst (λ (j : ℕ). value_at answers j ≤ value_at x.seen j) e (none_rises x (value_at answers) 0 16 h k l)
@@ -209,6 +212,7 @@ quiet_gives c answers h = cut (is_cut c.limit c.own) refl h
     cut true q k = absurd cc
     cut false q k = (q, behind (is_behind c.own (value_at answers)) refl k)
 
+-- a processor that answers that it is cut has reached its limit
 pub cut_gives : (c : CpuState) (answers : List ℕ) → local_gives c answers ≡ LocalCut → is_cut c.limit c.own ≡ true
 cut_gives c answers h = cut (is_cut c.limit c.own) refl h
   where
@@ -262,6 +266,7 @@ record Moved (o : Marks) (c d : CpuState) (w : View) (u : WordsView) (e : Event)
   pub state : d ≡ state_then c found number e
   pub moved : IsMoved c.script number e (stand_in c.cpu c.own) found u (words_of o w)
 
+-- a processor that advanced by an event moved: it was not cut, and its state is that after the event
 did_move : (s : Script) (o : Marks) (c d : CpuState) (w : View) (answers : List ℕ) (u : WordsView) (e : Event) →
     Advanced c d answers (λ n e st f. FoundBy s w n e st f) (Did e) u (words_of o w) → Moved o c d w u e
 did_move s o c d w answers u e (inl a) =
@@ -274,6 +279,7 @@ record GrewAtWork (c d : CpuState) (v w : View) (last : ℕ) (e : Event) : Type 
   pub goes : GoesOnFrom (record { cpu = c; view = v }) (record { cpu = d; view = w })
   pub list : pairs_of w ≡ pairs_of v ++ (last, e) ∷ []
 
+-- a worker that moved by an event, with its seat grown, goes on from it and lists the event last
 grew_at_work : (m o : Marks) (c d : CpuState) (v w : View) (answers : List ℕ) (u : WordsView) (last : ℕ) (e : Event) → AreLooked c answers (words_of m v) u →
     Moved o c d w u e → SeatGrows 0 last v w → GrewAtWork c d v w last e
 grew_at_work m o c d v w answers u last e l a g =
@@ -332,6 +338,7 @@ stayed table s limit m o c d p q answers u did cpus seated at listed knows g sam
     stays : StaysAtWork s limit c (pass_view p) (pass_view q)
     stays = stays_at_work s limit c (pass_view p) (pass_view q) only.0 seated.work only.1
 
+-- a turn that words tell, over a pass that grew, is an advance of the seated processor to what the turn came to
 pub advanced : (table : TableId) (s : Script) (limit : ℕ) (m o : Marks) (c d : CpuState) (p q : Pass) (last : ℕ) (turned : Result Turned AllocError) →
     cpus_of m ≡ s.cpus → IsSeated table s limit c p → pass_table q ≡ table → ∥ AreListed (pass_view q) ∥₁ →
     Knows d (words_of o (pass_view q)) → SeatGrows 0 last (pass_view p) (pass_view q) → IsTold s m o c d (pass_view p) (pass_view q) turned →

@@ -10,16 +10,19 @@ Ups [] = Unit {0}
 Ups (x ∷ []) = Unit {0}
 Ups (x ∷ y ∷ ys) = (x < y) × Ups (y ∷ ys)
 
+-- a strictly increasing list of numbers without its first is strictly increasing
 rest_rises : (x : ℕ) (xs : List ℕ) → IsStrictlyIncreasing (x ∷ xs) → IsStrictlyIncreasing xs
 rest_rises x xs h k l =
     let e : suc k + 1 ≡ suc (k + 1) = omega arith in
     subst (λ (j : ℕ). get_or (x ∷ xs) (suc k) 0 < get_or (x ∷ xs) j 0) e (h (suc k) (omega (arith, l)))
 
+-- a strictly increasing list of numbers has each number below the next one
 pub ups : (xs : List ℕ) → IsStrictlyIncreasing xs → Ups xs
 ups [] h = tt
 ups (x ∷ []) h = tt
 ups (x ∷ y ∷ ys) h = (h 0 (omega arith), ups (y ∷ ys) (rest_rises x (y ∷ ys) h))
 
+-- a rising list without its first rises
 ups_rest : (x : ℕ) (xs : List ℕ) → Ups (x ∷ xs) → Ups xs
 ups_rest x [] u = tt
 ups_rest x (y ∷ ys) u = u.1
@@ -36,16 +39,20 @@ abbrev pub below : ℕ → List ℕ → List ℕ
 below m [] = []
 below m (x ∷ xs) = if nat_lt x m then (x ∷ below m xs) else []
 
+-- if the first number of a list is below a bound, it is the first of those below the bound
 below_yes : (m x : ℕ) (xs : List ℕ) → x < m → below m (x ∷ xs) ≡ x ∷ below m xs
 below_yes m x xs h = ap (λ (b : Bool). if b then (x ∷ below m xs) else []) (lt-ltb x m h)
 
+-- if the first number of a list is not below a bound, none are in the beginning below it
 below_no : (m x : ℕ) (xs : List ℕ) → m ≤ x → below m (x ∷ xs) ≡ []
 below_no m x xs h = ap (λ (b : Bool). if b then (x ∷ below m xs) else []) (le-ltb x m h)
 
+-- no number of a list of numbers is below zero
 pub below_zero : (xs : List ℕ) → below 0 xs ≡ []
 below_zero [] = refl
 below_zero (x ∷ xs) = below_no 0 x xs (omega arith)
 
+-- if all numbers of a list are below a bound, the numbers at its head below the bound are the whole list
 pub below_all : (m : ℕ) (xs : List ℕ) → ((x : ℕ) → Contains xs x → x < m) → below m xs ≡ xs
 below_all m [] h = refl
 below_all m (x ∷ xs) h =

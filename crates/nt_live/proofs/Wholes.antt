@@ -166,6 +166,7 @@ module _ (s : Script) (limit : ℕ) (v : View) (mine : CpuNo → List Numbered) 
   fit : FitTogether s limit h lists
   fit = record { steps = own_step; rise = rise; notes = noted }
 
+-- the events that closed passes and lanes show together are those of one run
 pub gathers : Gathers
 gathers s limit v mine ks n t c =
     let p = picked s limit v mine t n c.once in (

@@ -39,9 +39,11 @@ use Rattle.nt_live.specs.Workers.{AreSteps, IsStep, WorkerState, all_drawn, draw
 
 -- ---- the events of a processor's list, as its part of the history
 
+-- the entry of a piece that has an event's number and the event
 numbered_entry : Numbered → PieceEntry
 numbered_entry m = record { number = m.number; event = m.placed.event }
 
+-- the piece of a processor in a history is its part of the history, as entries
 piece_is : (p : CpuNo) (h : List Placed) → cpu_piece p (events h) ≡ map numbered_entry (part p h)
 unfolding numbered_entry
 piece_is p [] = refl
@@ -57,6 +59,7 @@ piece_is p (y ∷ past) = go (is_of y.event p) (piece_is p past)
     go true ih = λ i. record { number = long past i; event = y.event } ∷ ih i
     go false ih = ih
 
+-- the pairs of a piece's entries, oldest first, are the pairs of the entries that the worker drew
 pairs_are : (s : Script) (p : CpuNo) (ms : List Numbered) →
     map pair_of (reverse (map numbered_entry ms)) ≡ map pair_of_entry (all_drawn s p ms)
 unfolding numbered_entry
@@ -67,6 +70,7 @@ pairs_are s p (m ∷ ms) =
     ∙ (ap (λ (xs : List (ℕ × Event)). xs ++ (m.number, m.placed.event) ∷ []) (pairs_are s p ms)
     ∙ sym (map-append pair_of_entry (all_drawn s p ms) (drawn_of s p m ms ∷ []))))
 
+-- the piece of a processor in a history, oldest first, is what its worker drew, if the part is its list
 part_is : (s : Script) (p : CpuNo) (h : List Placed) (ms : List Numbered) → part p h ≡ ms →
     map pair_of (reverse (cpu_piece p (events h))) ≡ map pair_of_entry (all_drawn s p ms)
 part_is s p h ms e =
@@ -74,6 +78,7 @@ part_is s p h ms e =
 
 -- ---- the events in the order of their numbers
 
+-- each event of a worker's list is a step from those before it
 step_at : (s : Script) (limit : ℕ) (p : CpuNo) (v : View) (ms : List Numbered) (m : Numbered) (past : List Numbered) → AreSteps s limit p v ms →
     IsTail (m ∷ past) ms → IsStep s limit p v m past
 step_at s limit p v [] m past a ([], e) = cc
@@ -86,6 +91,7 @@ step_at s limit p v (x ∷ ms) m past a (y ∷ front, e) =
     let rest : ms ≡ front ++ m ∷ past = cc in
     step_at s limit p v ms m past a.1 (front, rest)
 
+-- an element's image under a map is in the mapped list
 contains_map : {A B : Type 0} (f : A → B) (xs : List A) (x : A) → Contains xs x → Contains (map f xs) (f x)
 contains_map f [] x (k, l, e) = absurd (omega (arith, l))
 contains_map f (y ∷ xs) x (zero, l, e) = (0, omega arith, ap f e)
@@ -93,6 +99,7 @@ contains_map f (y ∷ xs) x (suc k, l, e) =
     let r = contains_map f xs x (k, omega (arith, l), e) in
     (suc r.0, (let z = r.1 in omega (arith, z)), r.2)
 
+-- an empty list has no end with an event in it
 no_tail : {A : Type 0} (m : Numbered) (past front : List Numbered) → [] ≡ front ++ m ∷ past → A
 no_tail m past [] h = cc
 no_tail m past (x ∷ front) h = cc
@@ -133,6 +140,7 @@ module _ (s : Script) (limit : ℕ) (v : View) (mine : CpuNo → List Numbered) 
       ∙ (ap (λ (z : Event). take (length past) es ++ z ∷ []) (sym (here y past front y.event e))
       ∙ (sym (take_more es (length past) y.event within) ∙ ap (λ (k : ℕ). take k es) (sym more))))
 
+  -- the events of the whole run are those of the list by numbers, the newest first
   pub are_events : length h ≡ length es → events h ≡ reverse es
   are_events long =
       sym (reverse-reverse (events h))
@@ -157,6 +165,7 @@ module _ (s : Script) (limit : ℕ) (ws : List WorkerState) (cpus : List CpuStat
   same : events history ≡ reverse es
   same = are_events s limit w t.mine es history (length es) together whole m.placed whole.count
 
+  -- the events of a team whose passes and lanes are closed are a run with each worker's list as its part
   pub worked : IsWorked s limit ws (reverse es)
   worked = record {
     run = subst (λ (xs : List Event). IsRun s limit xs) same whole.composed.run;
@@ -167,6 +176,7 @@ module _ (s : Script) (limit : ℕ) (ws : List WorkerState) (cpus : List CpuStat
         ∙ (part_is s (cpu k) history (t.mine (cpu k)) (whole.parts (cpu k)) ∙ sym x.pairs));
   }
 
+  -- the lists of the closed lanes are the pieces of the lanes in the run of the team's events
   pub pieces : ArePieces s (reverse es) ps
   pieces = record {
     once = subst (λ (ns : List ℕ). IsEachOnce (lane_count s) ns) (sym (lanes_are m.table ps m.keepers m.lists)) m.closed.lanes;
@@ -196,6 +206,7 @@ module _ (s : Script) (limit : ℕ) (ws : List WorkerState) (cpus : List CpuStat
       ))
       h
 
+  -- if none of the team's processors has more to do, the run of its events is settled
   pub settled : IsSettledBy s limit v cpus (reverse es)
   settled more =
       subst (λ (xs : List Event). is_settled s limit xs ≡ true) same

@@ -20,9 +20,11 @@ abbrev pub read_on : ℕ → List ℕ → ℕ
 read_on n [] = n
 read_on n (c ∷ cs) = read_on (10 * n + (c - 48)) cs
 
+-- decimal digits and the value read from them are numerals, so that different numbers are spelled differently
 own : IsNumeralModel (λ ds. all_ascii_digits ds ≡ true) (read_on 0)
 own = numerals_by_fold _ (search rules) read_on (search rules)
 
+-- decimal digits are bytes that a name may have
 digits_named : (ds : List ℕ) → all_ascii_digits ds ≡ true → list_all is_name_byte ds ≡ true
 digits_named [] e = refl
 digits_named (c ∷ cs) e =
@@ -49,6 +51,7 @@ new_both before [] ys a b = subst (λ (zs : List (List ℕ)). AreNew zs ys) (app
 new_both before (x ∷ xs) ys a b =
     (a.0, a.1, new_both (before ++ x ∷ []) xs ys a.2 (subst (λ (zs : List (List ℕ)). AreNew zs ys) (sym (append_assoc before (x ∷ []) xs)) b))
 
+-- names of one letter and numbers in a row below 100 are new names, if none of them was there before
 new_from : (before : List (List ℕ)) (letter k n : ℕ) → is_name_byte letter ≡ true → k + n ≤ 100 →
     ((i : ℕ) → i < n → place (spelled (letter ∷ []) (k + i)) before ≡ None) → AreNew before (table_from k n (spelled (letter ∷ [])))
 unfolding table_from
@@ -71,6 +74,7 @@ new_from before letter k (suc n) e l free =
         let free_here : place (spelled (letter ∷ []) (suc k + i)) before ≡ None = rw z at (free (suc i) (omega arith)) in
         in_neither (spelled (letter ∷ []) (suc k + i)) before (spelled (letter ∷ []) k ∷ []) free_here (nowhere i m)
 
+-- up to 100 names of a letter and a number are new names if none of that letter was there before
 pub new_letter : (before : List (List ℕ)) (letter n : ℕ) → is_name_byte letter ≡ true → n ≤ 100 →
     ((i : ℕ) → place (letter ∷ decimal i) before ≡ None) → AreNew before (spelled_names (letter ∷ []) n)
 new_letter before letter n e l free = new_from before letter 0 n e (omega arith) (λ i m. free (0 + i))
@@ -165,6 +169,7 @@ load_runs =
     ∷ numbered 98 32 refl (lit≤ tt)
     ∷ []
 
+-- all names of the load are well formed and differ
 pub load_names_differ : AreNew [] (all_names load_names)
 unfolding load_names object_names thing_names
 load_names_differ = subst (AreNew []) same (new_runs [] load_runs refl (free_at_start load_runs))

@@ -23,6 +23,7 @@ use Rattle.nt_load.specs.declared.commands.Row.{Row}
 
 -- ---- what holds of each value of a table
 
+-- a test that holds of each entry of a table from a number on holds of all its members
 list_all_from : {A : Type 0} (test : A → Bool) (k n : ℕ) (f : ℕ → A) → ((i : ℕ) → i < n → test (f (k + i)) ≡ true) → list_all test (table_from k n f) ≡ true
 unfolding table_from
 list_all_from test k zero f h = refl
@@ -33,14 +34,17 @@ list_all_from test k (suc n) f h =
     next : (i : ℕ) → i < n → test (f (suc k + i)) ≡ true
     next i l = let e : k + suc i ≡ suc k + i = omega arith in rw e at (h (suc i) (omega arith))
 
+-- a test that each value of a table passes holds of the whole table
 pub list_all_table : {A : Type 0} (test : A → Bool) (n : ℕ) (f : ℕ → A) → ((i : ℕ) → i < n → test (f i) ≡ true) → list_all test (table n f) ≡ true
 list_all_table test n f h = list_all_from test 0 n f (λ i l. let e : 0 + i ≡ i = omega arith in rw e (h i l))
 
+-- a property of each entry of a table from a number on is one of all its members
 all_from : {A : Type 0} (P : A → Type 0) (k n : ℕ) (f : ℕ → A) → ((i : ℕ) → P (f i)) → AllByRecursion P (table_from k n f)
 unfolding table_from
 all_from P k zero f h = tt
 all_from P k (suc n) f h = (h k, all_from P (suc k) n f h)
 
+-- the sum over a table of entries of equal weight is that weight times their number
 sum_from : {A : Type 0} (weight : A → ℕ) (w k n : ℕ) (f : ℕ → A) → ((i : ℕ) → weight (f i) ≡ w) → sum_by weight (table_from k n f) ≡ n * w
 unfolding table_from
 sum_from weight w k zero f h = omega arith
@@ -60,9 +64,11 @@ pub record HasLoad (s : Script) : Type 0 where
   pub apcs : length s.apcs ≡ 96
   pub routines : length s.routines ≡ 33
 
+-- two joined lists have the sum of their two lengths
 pub both_lengths : {A : Type 0} (xs ys : List A) (a b : ℕ) → length xs ≡ a → length ys ≡ b → length (xs ++ ys) ≡ a + b
 both_lengths xs ys a b e f = length-append xs ys ∙ omega (arith, e, f)
 
+-- the load has 4 processors, 32 DPC objects, 8 timers, 32 threads, 96 APC objects and 33 routines
 pub has_load : (seed : ℕ) → HasLoad (load_script seed)
 has_load seed = record {
   cpus = refl;
@@ -76,20 +82,25 @@ has_load seed = record {
   routines = ap suc (length-table_from 0 32 (busy_routine seed));
 }
 
+-- a number below a count passes the test against the equal count
 has : (k n m : ℕ) → n ≡ m → k < m → nat_lt k n ≡ true
 has k n m e l = rw e (lt-ltb k m l)
 
+-- a count equal to one within the limit passes the test of the limit
 few : (n m most : ℕ) → n ≡ m → m ≤ most → nat_le n most ≡ true
 few n m most e l = rw e (le-leb m most l)
 
+-- two tests that hold have a true conjunction
 and2 : (a b : Bool) → a ≡ true → b ≡ true → (a && b) ≡ true
 and2 a b ea eb = rw (ea, eb) refl
 
+-- a value drawn below a bound that is not 0 is below it
 pub draw_less : (k m x : ℕ) → 0 < m → draw k m x < m
 draw_less k m x h = mod-lt (after (k + 1) x / 65536) h
 
 -- ---- commands
 
+-- a command that is drawn fits each script that has what the load has
 drawn_fits : (s : Script) → HasLoad s → (r : Row) (x : ℕ) → command_fits s (command_of r x) ≡ true
 drawn_fits s h row.Raise x = refl
 drawn_fits s h row.Lower x = refl
@@ -111,6 +122,7 @@ drawn_fits s h row.LeaveCrit x = refl
 drawn_fits s h row.Interrupt x = and2 _ _ (has _ _ _ h.cpus (draw_less 1 4 x (lit< tt))) refl
 drawn_fits s h row.ToUser x = refl
 
+-- a command that is drawn has its numbers in range
 drawn_range : (r : Row) (x : ℕ) → HasRange (command_of r x)
 drawn_range row.Raise x = lit≤ tt
 drawn_range row.Lower x = lit≤ tt
@@ -128,45 +140,56 @@ drawn_range row.LeaveCrit x = tt
 drawn_range row.Interrupt x = tt
 drawn_range row.ToUser x = tt
 
+-- a routine of drawn commands fits each script that has what the load has
 busy_fits : (s : Script) → HasLoad s → (seed r : ℕ) → routine_fits s (busy_routine seed r) ≡ true
 busy_fits s h seed r = list_all_table (command_fits s) 128 (λ i. command_at (128 * r + i) seed)
     (λ i l. drawn_fits s h (row_at (begin (128 * r + i) seed)) (begin (128 * r + i) seed))
 
+-- all commands of a routine of drawn commands have their numbers in range
 busy_range : (seed r : ℕ) → AllByRecursion HasRange ((busy_routine seed r).commands)
 busy_range seed r = all_from HasRange 0 128 (λ i. command_at (128 * r + i) seed)
     (λ i. drawn_range (row_at (begin (128 * r + i) seed)) (begin (128 * r + i) seed))
 
+-- the numbers of all commands of the load are in their ranges
 pub load_ranges : (seed : ℕ) → AllByRecursion (λ r. AllByRecursion HasRange r.commands) ((load_script seed).routines)
 load_ranges seed =
     (tt, all_from (λ r. AllByRecursion HasRange r.commands) 0 32 (busy_routine seed) (λ r. busy_range seed r))
 
 -- ---- declarations
 
+-- each of the 32 APCs of a kind fits a script that has what the load has
 apc_declared : (s : Script) → HasLoad s → (k : ApcKind) (i : ℕ) → i < 32 → apc_fits s (apc_decl k i) ≡ true
 apc_declared s h Special i l = rw (has i _ _ h.threads l, has 0 _ _ h.routines (lit< tt)) refl
 apc_declared s h Normal i l = rw (has i _ _ h.threads l, has 0 _ _ h.routines (lit< tt)) refl
 apc_declared s h User i l = rw (has i _ _ h.threads l, has 0 _ _ h.routines (lit< tt)) refl
 
+-- all 32 APCs of a kind fit a script that has what the load has
 apcs_fit : (s : Script) → HasLoad s → (k : ApcKind) → list_all (apc_fits s) (table 32 (apc_decl k)) ≡ true
 apcs_fit s h k = list_all_table (apc_fits s) 32 (apc_decl k) (λ i l. apc_declared s h k i l)
 
+-- each of the 32 threads fits a script that has what the load has
 thread_declared : (s : Script) → HasLoad s → (i : ℕ) → i < 32 → thread_fits s (busy_thread i) ≡ true
 thread_declared s h i l =
     and2 _ _ (has _ _ _ h.cpus (mod-lt i (lit< tt))) (has (i + 1) _ _ h.routines (omega arith))
 
+-- each of the 8 timers fits a script that has what the load has
 timer_declared : (s : Script) → HasLoad s → (i : ℕ) → i < 8 → timer_fits s (timer_of_dpc i) ≡ true
 timer_declared s h i l = has i _ _ h.dpcs (omega arith)
 
+-- each of the 32 DPCs fits a script that has what the load has
 dpc_declared : (s : Script) → HasLoad s → (i : ℕ) → i < 32 → dpc_fits s (idle_dpc i) ≡ true
 dpc_declared s h i l = has 0 _ _ h.routines (lit< tt)
 
+-- each of the 4 interrupt routines fits a script that has what the load has
 isr_declared : (s : Script) → HasLoad s → (i : ℕ) → i < 4 → isr_fits s (idle_isr i) ≡ true
 isr_declared s h i l = rw (has i _ _ h.cpus l, has 0 _ _ h.routines (lit< tt)) refl
 
+-- the interrupt routines of the four processors are for different pairs of processor and level
 differ_by_cpu : isrs_differ (table 4 idle_isr) ≡ true
 unfolding table_from
 differ_by_cpu = refl
 
+-- the load has 4096 commands in its routines, whatever its seed
 commands_in_all : (seed : ℕ) → command_count ((load_script seed).routines) ≡ 4096
 commands_in_all seed =
     in_all _ _ (sum_by-cons (λ r. length r.commands) idle_routine (table 32 (busy_routine seed)))
@@ -175,10 +198,12 @@ commands_in_all seed =
     in_all : (a b : ℕ) → a ≡ 0 + b → b ≡ 32 * 128 → a ≡ 4096
     in_all a b e f = omega (arith, e, f)
 
+-- eight tests that hold have a true conjunction
 and8 : (a b c d e f g h : Bool) → a ≡ true → b ≡ true → c ≡ true → d ≡ true → e ≡ true → f ≡ true → g ≡ true → h ≡ true →
     (a && b && c && d && e && f && g && h) ≡ true
 and8 a b c d e f g h ea eb ec ed ee ef eg eh = rw (ea, eb, ec, ed, ee, ef, eg, eh) refl
 
+-- the script of the load is within all limits, whatever its seed
 load_meets_limits : (seed : ℕ) → meets_limits (load_script seed) ≡ true
 load_meets_limits seed =
     let h = has_load seed in
@@ -191,6 +216,7 @@ load_meets_limits seed =
       few _ _ 8192 (commands_in_all seed) (lit≤ tt),
     ) refl
 
+-- the script of the load fits, for each seed
 pub load_fits : (seed : ℕ) → fits (load_script seed) ≡ true
 load_fits seed =
     let s = load_script seed in

@@ -8,6 +8,7 @@ use Rattle.nt_event.specs.declared.scripts.Routine.{Routine}
 use Rattle.nt_load.specs.Load.{busy_routine}
 use Rattle.nt_load.specs.Draws.{after, next}
 
+-- some draws and then more are as many draws as both together
 pub after_both : (j k x : ℕ) → after j (after k x) ≡ after (k + j) x
 unfolding after
 after_both zero k x = ap (λ (n : ℕ). after n x) (omega arith)
@@ -40,17 +41,21 @@ draws_both n (suc m) x =
     grown : (a b c p q : ℕ) → a + b ≡ c → p ≡ q → a + (b + p) ≡ c + q
     grown a b c p q e f = omega (arith, e, f)
 
+-- the number after some commands and then more is the number after as many commands as both together
 pub begin_both : (n m x : ℕ) → begin m (begin n x) ≡ begin (n + m) x
 begin_both n m x =
     after_both (draws_before m (begin n x)) (draws_before n x) x ∙ ap (λ (k : ℕ). after k x) (draws_both n m x)
 
+-- the first command begins at the number that is given
 pub begin_none : (x : ℕ) → x ≡ begin 0 x
 unfolding after draws_before
 begin_none x = refl
 
+-- a command begins after the draws of the one before it
 pub begin_next : (n x y z : ℕ) → y ≡ begin n x → z ≡ after (draw_count y) y → z ≡ begin (n + 1) x
 begin_next n x y z e f = f ∙ (ap (λ (b : ℕ). after (draw_count b) b) e ∙ sym (begin_more n x))
 
+-- a command counted from where an earlier one begins is the one with the sum of both numbers
 command_both : (n i x : ℕ) → command_at i (begin n x) ≡ command_at (n + i) x
 command_both n i x = ap (λ (b : ℕ). command_of (row_at b) b) (begin_both n i x)
 
@@ -60,11 +65,13 @@ commands_both n m x y e =
     ap (λ (b : ℕ). commands m b) e
     ∙ table-same m (λ i. command_at i (begin n x)) (λ i. command_at (n + i) x) (λ i l. command_both n i x)
 
+-- a routine begins 128 commands after the one before it
 pub begin_routine : (r x y z : ℕ) → y ≡ begin (128 * r) x → z ≡ begin 128 y → z ≡ begin (128 * (r + 1)) x
 begin_routine r x y z e f =
     let n : 128 * r + 128 ≡ 128 * (r + 1) = omega arith in
     f ∙ (ap (λ (b : ℕ). begin 128 b) e ∙ (begin_both (128 * r) 128 x ∙ ap (λ (k : ℕ). begin k x) n))
 
+-- the 128 commands that are drawn from where a routine begins are those of the busy routine
 pub busy_routine_is : (r x y : ℕ) (routine : Routine) → y ≡ begin (128 * r) x → routine.commands ≡ commands 128 y → routine ≡ busy_routine x r
 busy_routine_is r x y routine e f =
     ap (λ (cs : List Command). record { commands = cs }) (f ∙ commands_both (128 * r) 128 x y e)

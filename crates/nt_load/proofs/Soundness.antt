@@ -32,6 +32,7 @@ with_parts isrs dpcs timers threads apcs routines = record {
   locks = 0;
 }
 
+-- tables of the parts of the load, with the routines of a seed, make the script of the load of that seed
 pub made_script : (seed : ℕ) (isrs : List Isr) (dpcs : List DpcDecl) (timers : List TimerDecl) (threads : List ThreadDecl) (apcs : List ApcDecl)
     (routines : List Routine) → isrs ≡ table 4 idle_isr → dpcs ≡ table 32 idle_dpc → timers ≡ table 8 timer_of_dpc → threads ≡ table 32 busy_thread →
     apcs ≡ all_apcs → routines ≡ idle_routine ∷ table 32 (busy_routine seed) → with_parts isrs dpcs timers threads apcs routines ≡ load_script seed
@@ -41,10 +42,12 @@ made_script seed isrs dpcs timers threads apcs routines i d t h a r = rw (i, d, 
 abbrev pub input_of : Script → NameLists → Input
 input_of script names = record { version = 1; script = script; names = names }
 
+-- the script of the load of a seed and the names of the load make the load of that seed
 pub made_load : (seed : ℕ) (script : Script) (names : NameLists) → script ≡ load_script seed → names ≡ load_names → input_of script names ≡ load_input seed
 unfolding load_input
 made_load seed script names s n = rw (s, n) refl
 
+-- the load of each seed is a sound input
 pub load_is_sound : (seed : ℕ) → IsSound (load_input seed)
 unfolding load_input load_names object_names thing_names
 load_is_sound seed =

@@ -30,6 +30,7 @@ nowhere_from name f k (suc n) j differs =
     rest : (i : ℕ) → i < n → bytes_eq name (f (suc k + i)) ≡ false
     rest i l = let e : k + suc i ≡ suc k + i = omega arith in rw e at (differs (suc i) (omega arith))
 
+-- a name that differs from each value of a table has no place in the table
 pub nowhere_in_table : (name : List ℕ) (f : ℕ → List ℕ) (n : ℕ) →
     ((i : ℕ) → i < n → bytes_eq name (f i) ≡ false) → place name (table n f) ≡ None
 nowhere_in_table name f n differs =
@@ -43,6 +44,7 @@ differ f g ne = go (bytes_eq f g) refl
     go true e = absurd (ne (same_text f g e))
     go false e = refl
 
+-- names of the same letter with different numbers differ
 pub other_number : (letter : List ℕ) (i j : ℕ) → i < j → j < 2 ^ 64 → bytes_eq (spelled letter j) (spelled letter i) ≡ false
 other_number letter i j l h =
     differ (spelled letter j) (spelled letter i) same
@@ -75,6 +77,7 @@ pub record IsFree (name : List ℕ) (names : NameLists) : Type 0 where
   pub locks : place name names.locks ≡ None
   pub routines : place name names.routines ≡ None
 
+-- a name that means nothing has no place in any of the six lists of names
 parts : (d t h a l r : Option ℕ) → or_else (option_map dpc_at d)
     (or_else (option_map timer_at t)
     (or_else (option_map thread_at h) (or_else (option_map apc_at a) (or_else (option_map lock_at l) (option_map routine_at r))))) ≡ None →
@@ -87,12 +90,14 @@ parts None None None (Some a) l r e = absurd cc
 parts None None None None (Some l) r e = absurd cc
 parts None None None None None (Some r) e = absurd cc
 
+-- a name that names no thing is in the list of no kind
 pub free_of : (name : List ℕ) (names : NameLists) → meaning name names ≡ None → IsFree name names
 free_of name names e =
     let p = parts (place name names.dpcs) (place name names.timers) (place name names.threads) (place name names.apcs) (place name names.locks)
     (place name names.routines) e in
     record { dpcs = p.0; timers = p.1; threads = p.2; apcs = p.3; locks = p.4; routines = p.5 }
 
+-- a name that is in the list of no kind names no thing
 pub free_means : (name : List ℕ) (names : NameLists) → IsFree name names → meaning name names ≡ None
 free_means name names f = rw (f.dpcs, f.timers, f.threads, f.apcs, f.locks, f.routines) refl
 
@@ -129,6 +134,7 @@ still_free k letter n i names l h e =
       routines = more names.routines f.routines;
     }
 
+-- no names of a letter put behind those of a kind change nothing
 pub none_spelled : (k : Kind) (letter : List ℕ) (names : NameLists) → with_spelled k letter 0 names ≡ names
 unfolding table_from with_spelled
 none_spelled kind.Dpc letter names = ap (λ (xs : List (List ℕ)). record names { dpcs = xs }) (append-nil names.dpcs)
@@ -138,6 +144,7 @@ none_spelled kind.Apc letter names = ap (λ (xs : List (List ℕ)). record names
 none_spelled kind.Lock letter names = ap (λ (xs : List (List ℕ)). record names { locks = xs }) (append-nil names.locks)
 none_spelled kind.Routine letter names = ap (λ (xs : List (List ℕ)). record names { routines = xs }) (append-nil names.routines)
 
+-- the next name of a letter put behind the first n of them makes n + 1 of them
 pub more_spelled : (k : Kind) (letter : List ℕ) (n : ℕ) (names : NameLists) →
     with_name k (spelled letter n) (with_spelled k letter n names) ≡ with_spelled k letter (n + 1) names
 unfolding with_spelled
@@ -190,12 +197,14 @@ free_beside k letter n head rest names ne f = go k
       routines = more names.routines f.routines;
     }
 
+-- each name is free as long as there are no names at all
 pub free_first : (name : List ℕ) (names : NameLists) → names ≡ no_names → IsFree name names
 free_first name names e = subst (λ (n : NameLists). IsFree name n) (sym e) none
   where
     none : IsFree name no_names
     none = record { dpcs = refl; timers = refl; threads = refl; apcs = refl; locks = refl; routines = refl }
 
+-- names of one letter put behind others leave a free name with another first letter free
 pub free_behind : (k : Kind) (letter n head : ℕ) (rest : List ℕ) (names new : NameLists) → new ≡ with_spelled k (letter ∷ []) n names →
     (head == letter) ≡ false → IsFree (head ∷ rest) names → IsFree (head ∷ rest) new
 free_behind k letter n head rest names new e ne f =
@@ -221,6 +230,7 @@ free_behind_one name other names new e ne f = subst (λ (m : NameLists). IsFree 
 
 -- ---- the names of the load, as they are added
 
+-- names put behind none for DPC objects, timers and threads, in this order, are the names of the objects
 pub objects_made : (a b d e : NameLists) → a ≡ no_names → b ≡ with_spelled kind.Dpc (100 ∷ []) 32 a → d ≡ with_spelled kind.Timer (107 ∷ []) 8 b →
     e ≡ with_spelled kind.Thread (116 ∷ []) 32 d → e ≡ object_names
 unfolding object_names with_spelled
@@ -228,6 +238,7 @@ objects_made a b d e ea eb ed ee =
     ee ∙ ap (with_spelled kind.Thread (116 ∷ []) 32) (ed ∙ ap (with_spelled kind.Timer (107 ∷ []) 8)
     (eb ∙ ap (with_spelled kind.Dpc (100 ∷ []) 32) ea))
 
+-- names put behind those of the objects for APC objects, kind by kind, are the names of the things
 pub things_made : (a b d e : NameLists) → a ≡ object_names → b ≡ with_spelled kind.Apc (115 ∷ []) 32 a → d ≡ with_spelled kind.Apc (110 ∷ []) 32 b →
     e ≡ with_spelled kind.Apc (117 ∷ []) 32 d → e ≡ thing_names
 unfolding object_names thing_names with_spelled
@@ -235,6 +246,7 @@ things_made a b d e ea eb ed ee =
     ee ∙ ap (with_spelled kind.Apc (117 ∷ []) 32) (ed ∙ ap (with_spelled kind.Apc (110 ∷ []) 32)
     (eb ∙ ap (with_spelled kind.Apc (115 ∷ []) 32) ea))
 
+-- names put behind those of the things for the idle routine and 32 others are the names of the load
 pub all_made : (a b d : NameLists) → a ≡ thing_names → b ≡ with_name kind.Routine (codes "idle") a → d ≡ with_spelled kind.Routine (98 ∷ []) 32 b →
     d ≡ load_names
 unfolding object_names thing_names load_names with_spelled
@@ -257,6 +269,7 @@ free_of_objects head rest names e d k t = subst (λ (n : NameLists). IsFree (hea
       routines = refl;
     }
 
+-- a name with a first letter that no kind of thing has is free among the names of the things
 pub free_of_things : (head : ℕ) (rest : List ℕ) (names : NameLists) → names ≡ thing_names → (head == 100) ≡ false → (head == 107) ≡ false →
     (head == 116) ≡ false → (head == 115) ≡ false → (head == 110) ≡ false → (head == 117) ≡ false → IsFree (head ∷ rest) names
 unfolding object_names thing_names

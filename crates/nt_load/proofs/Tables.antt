@@ -4,10 +4,12 @@ use Rattle.std.proofs.lemmas.List.{append-nil}
 use Rattle.nt_event.proofs.Tables.{table_grown}
 use Rattle.nt_event.specs.Lists.{table, table_from}
 
+-- a list is the same with an empty table behind it
 pub behind_none : {A : Type 0} (xs : List A) (f : ℕ → A) → xs ≡ xs ++ table 0 f
 unfolding table_from
 behind_none xs f = sym (append-nil xs)
 
+-- one value more behind a list with a table behind it makes the table one longer
 pub behind_grown : {A : Type 0} (n : ℕ) (f : ℕ → A) (xs zs ys : List A) (x : A) → ys ≡ zs ++ x ∷ [] → zs ≡ xs ++ table n f →
     x ≡ f n → ys ≡ xs ++ table (n + 1) f
 behind_grown {A} n f xs zs ys x a b c =

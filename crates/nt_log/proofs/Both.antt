@@ -34,6 +34,7 @@ use Rattle.nt_log.proofs.TurnRows.{bind_is, turn_again, turn_takes}
 abbrev ok : {A : Type 0} → A → Result A ScriptKind
 ok x = Ok x
 
+-- a schedule reader that succeeds with a value gives that value
 ok_is : {A : Type 0} (x y : A) → ok x ≡ Ok y → x ≡ y
 ok_is x y e = cc
 
@@ -58,6 +59,7 @@ record Went (cpus : ℕ) (input : Input) (w : ScheduleWalk) (n : ℕ) (line : Te
   steps : step cpus input w row ≡ Ok new
   goes_on : walk cpus input new (n + 1) more ≡ Ok s
 
+-- a walk over a line and more that makes a schedule took the line and went on with the others
 went : (cpus : ℕ) (input : Input) (w : ScheduleWalk) (n : ℕ) (line : TextLine) (more : List TextLine) (s : Schedule) →
     walk cpus input w n (line ∷ more) ≡ Ok s → Went cpus input w n line more s
 went cpus input w n line more s e = go (line_step cpus input w line) refl e
@@ -90,9 +92,11 @@ record TurnsTaken (cpus : ℕ) (input : Input) (turns : ℕ) (list : List Turn) 
   below : AreBelow cpus tail
   few : length (list ++ tail) ≤ EVENTS
 
+-- an empty row is no turn
 no_turn : {A : Type 0} (cpus : ℕ) (input : Input) (t : Turn) → read_turn cpus input [] ≡ Ok t → A
 no_turn cpus input t e = absurd cc
 
+-- the lines of a walk in the turns that makes a schedule are those of further turns and the line of the end
 turns_take : (cpus : ℕ) (input : Input) → cpus ≤ CPUS → IsSound input → (ls : List TextLine) (turns : ℕ) (list : List Turn) (n : ℕ) (s : Schedule) →
     length list ≤ EVENTS → walk cpus input (in_turns turns list) n ls ≡ Ok s → TurnsTaken cpus input turns list ls s
 turns_take cpus input most sound [] turns list n s few e = absurd cc
@@ -167,9 +171,11 @@ record FirstTaken (bound : ℕ) (row : Row) (new : ScheduleWalk) : Type 0 where
   new_is : in_turns turns [] ≡ new
   range : (1 ≤ turns) × (turns ≤ bound)
 
+-- a number that passes the test that it is not zero is at least one
 above_zero : (n : ℕ) → not (n == 0) ≡ true → 1 ≤ n
 above_zero n e = grind arith
 
+-- a first row that is taken is the turn limit, from 1 to the bound
 first_takes : (bound : ℕ) → bound ≤ TURNS → (row : Row) (new : ScheduleWalk) → first_step bound start row ≡ Ok new → FirstTaken bound row new
 first_takes bound most row new e = go row (bytes_eq (first row) (codes "schedule")) refl e
   where
@@ -222,11 +228,13 @@ line_again cpus input w new n row more clean steps =
     ap (λ (r : Result ScheduleWalk ScriptKind). go_on n r (λ new. walk cpus input new (n + 1) more))
     (bind_is (row_of (line_of row)) (step cpus input w) row clean ∙ steps)
 
+-- the line of a turn does not begin with the word that ends the schedule
 no_end : (input : Input) (t : Turn) → bytes_eq (first (turn_row input.names t)) (codes "done") ≡ false
 no_end input (Next p) = refl
 no_end input (Look p r) = refl
 no_end input (Switch p t) = refl
 
+-- a row that is read as a turn and is not the end adds this turn to the list, if there is room for it
 turn_step_again : (cpus : ℕ) (input : Input) (turns : ℕ) (list : List Turn) (row : Row) (t : Turn) → bytes_eq (first row) (codes "done") ≡ false →
     read_turn cpus input row ≡ Ok t → length list + 1 ≤ EVENTS → turn_step cpus input (in_turns turns list) row ≡ Ok (in_turns turns (list ++ t ∷ []))
 turn_step_again cpus input turns list row t other reads room =
@@ -235,6 +243,7 @@ turn_step_again cpus input turns list row t other reads room =
     (bind_is (read_turn cpus input row) (λ t. ok_if (nat_lt (length list) EVENTS) (in_turns turns (list ++ t ∷ [])) (TooMany what.Turns)) t reads
     ∙ rw few refl)
 
+-- the lines of turns and of the end are read as these turns, added to those before
 turns_again : (cpus : ℕ) (input : Input) → IsSound input → (ts : List Turn) (turns : ℕ) (list : List Turn) (n : ℕ) →
     AllByRecursion (TurnIsPlain input) ts → AreBelow cpus ts → length list + length ts ≤ EVENTS →
     walk cpus input (in_turns turns list) n (map line_of (map (turn_row input.names) ts ++ done_row ∷ []))
@@ -251,6 +260,7 @@ turns_again cpus input sound (t ∷ ts) turns list n plain below few =
     ∙ turns_again cpus input sound ts turns (list ++ t ∷ []) (n + 1) plain.1 below.1 (omega (arith, few, size))
     ∙ ap (λ (xs : List Turn). Ok (record { turns = turns; list = xs })) (append_assoc list (t ∷ []) ts)
 
+-- the line of a turn limit from 1 to the bound is read as that limit, with no turns yet
 first_again : (bound turns : ℕ) → bound ≤ TURNS → 1 ≤ turns → turns ≤ bound → first_step bound start (limit_row turns) ≡ Ok (in_turns turns [])
 first_again bound turns most low high =
     let some : (turns == 0) ≡ false = ne_eqb turns 0 (λ z. omega (arith, low, z)) in

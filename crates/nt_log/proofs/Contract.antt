@@ -20,11 +20,13 @@ use Rattle.nt_log.specs.Schedules.{AreBelow, IsTextOf, TurnIsPlain, schedule_row
 use Rattle.nt_log.proofs.Both.{walk_again, walk_takes}
 use Rattle.nt_log.proofs.OneSchedule.{schedule_clean}
 
+-- a turn that a text may have is of a processor below the greatest count
 plain_below : (input : Input) (t : Turn) → TurnIsPlain input t → (cpu_at t).0 < CPUS
 plain_below input (Next p) h = omega (arith, h)
 plain_below input (Look p r) h = let le = h.0 in omega (arith, le)
 plain_below input (Switch p t) h = let le = h.0 in omega (arith, le)
 
+-- turns that a text may have are all of processors below the greatest count
 all_below : (input : Input) (ts : List Turn) → AllByRecursion (TurnIsPlain input) ts → AreBelow CPUS ts
 all_below input [] h = tt
 all_below input (t ∷ ts) h = (plain_below input t h.0, all_below input ts h.1)
@@ -42,11 +44,13 @@ text_is_read bytes input n s h =
     let lines_are : lines bytes ≡ map line_of rows = ap lines h.text ∙ lines_again rows (schedule_clean input h.sound s h.plain) in
     ap (walk CPUS input start n) lines_are ∙ walk_again CPUS n input s h.sound h.plain (all_below input s.list h.plain.turns)
 
+-- what a call that does what reading says finds is a schedule that the bytes are the text of
 pub is_found : (bytes : List ℕ) (input : Input) (n : ℕ) (r : Result Schedule ScriptRefusal) → IsSound input → GivesRead r (reading CPUS input n bytes) →
     IfOk r (IsTextOf bytes input)
 is_found bytes input n (Ok s) sound h = schedule_is_text bytes input n s sound h
 is_found bytes input n (Err e) sound h = tt
 
+-- turns that a text may have fit the script
 plain_fits : (input : Input) (ts : List Turn) → AllByRecursion (TurnIsPlain input) ts → turns_fit input.script ts ≡ true
 plain_fits input [] h = refl
 plain_fits input (t ∷ ts) h = and_from (turn_fits input.script t) (turns_fit input.script ts) (one t h.0) (plain_fits input ts h.1)

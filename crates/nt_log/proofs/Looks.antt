@@ -22,6 +22,7 @@ use Rattle.nt_log.proofs.OneSchedule.{AreWords, rise_parts}
 abbrev ok : {A : Type 0} → A → Result A ScriptKind
 ok x = Ok x
 
+-- a reader of a look's values that succeeds with one gives that one
 ok_is : {A : Type 0} (x y : A) → ok x ≡ Ok y → x ≡ y
 ok_is x y e = cc
 
@@ -30,12 +31,15 @@ ok_is x y e = cc
 abbrev is_class : ℕ → ℕ → ℕ → Bool
 is_class ver least class = nat_le least class && is_written_class ver class
 
+-- a class that is read is written in decimal, is at most 15 and is a class that may be named there
 class_takes : (ver least : ℕ) → Takes (read_class ver least) decimal (λ c. (c ≤ 15) × (is_class ver least c ≡ true))
 class_takes ver least = level_of_takes (is_class ver least)
 
+-- a class of at most 15 that may be named there is read from its decimal digits
 class_again : (ver least c : ℕ) → c ≤ 15 → is_class ver least c ≡ true → read_class ver least (decimal c) ≡ Ok c
 class_again ver least c le used = rw (number_again 15 c (lit< tt) le, used) refl
 
+-- a value that is read is written in decimal, is of 64 bits and is not zero
 value_takes : Takes read_value decimal (λ v. (v ≤ 18446744073709551615) × ((v == 0) ≡ false))
 value_takes = record { shown = λ f v e. (go f v e).0; fits = λ f v e. (go f v e).1 }
   where
@@ -51,18 +55,22 @@ value_takes = record { shown = λ f v e. (go f v e).0; fits = λ f v e. (go f v 
         subst (λ (n : ℕ). (f ≡ decimal n) × ((n ≤ 18446744073709551615) × ((n == 0) ≡ false))) o.1
         (t.shown f b.value b.is, (t.fits f b.value b.is, negated (b.value == 0) o.0))
 
+-- a value of 64 bits that is not zero is read from its decimal digits
 value_again : (v : ℕ) → v ≤ 18446744073709551615 → (v == 0) ≡ false → read_value (decimal v) ≡ Ok v
 value_again v le some = rw (number_again 18446744073709551615 v (lit< tt) le, some) refl
 
 -- ---- the field of a class and its value
 
+-- a field joined with one or more others is the field, the byte between and the others joined
 join_more : (c : ℕ) (f : List ℕ) (ps : List (List ℕ)) → 1 ≤ length ps → join_with_byte c (f ∷ ps) ≡ f ++ c ∷ join_with_byte c ps
 join_more c f [] h = absurd (omega (arith, h))
 join_more c f (p ∷ ps) h = refl
 
+-- a text cut at a byte has at least one part
 has_parts : (c : ℕ) (xs : List ℕ) → 1 ≤ length (parts c xs)
 has_parts c xs = let e = length-slice_split (is_byte c) xs in omega (arith, e)
 
+-- a field with an equals sign is what stands before the first one, the sign, and what stands after it
 cut_at : (f : List ℕ) (i : ℕ) → position (is_byte 61) f ≡ Some i → f ≡ take i f ++ 61 ∷ drop (i + 1) f
 cut_at f i e =
     sym (join_with_byte-slice_split 61 f) ∙ ap (join_with_byte 61) (cut_found 61 f i e)
@@ -78,6 +86,7 @@ record Risen (ver least : ℕ) (f : List ℕ) (r : ℕ × ℕ) : Type 0 where
   some : (r.1 == 0) ≡ false
   range : r.1 ≤ 18446744073709551615
 
+-- a field that is read as a class and its value is written so, and both are in their ranges
 rise_takes : (ver least : ℕ) (f : List ℕ) (r : ℕ × ℕ) → read_rise ver least f ≡ Ok r → Risen ver least f r
 rise_takes ver least f r e = go (position (is_byte 61) f) refl e
   where
@@ -104,10 +113,12 @@ rise_takes ver least f r e = go (position (is_byte 61) f) refl e
 abbrev rise : ℕ → ℕ → Result (ℕ × ℕ) ScriptKind
 rise class value = Ok (class, value)
 
+-- a class and a value that are both read make the rise of this class to this value
 both_again : (ver least : ℕ) (a z : List ℕ) (c v : ℕ) → read_class ver least a ≡ Ok c → read_value z ≡ Ok v →
     (read_class ver least a >>= λ class. read_value z >>= rise class) ≡ rise c v
 both_again ver least a z c v h k = rw (h, k) refl
 
+-- the field of a class that may be named and of its value is read as these two
 rise_again : (ver least c v : ℕ) → c ≤ 15 → least ≤ c → is_written_class ver c ≡ true → v ≤ 18446744073709551615 → (v == 0) ≡ false →
     read_rise ver least (rise_field c v) ≡ Ok (c, v)
 rise_again ver least c v high low used range some = go (position (is_byte 61) (rise_field c v)) refl
@@ -135,6 +146,7 @@ rise_again ver least c v high low used range some = go (position (is_byte 61) (r
 abbrev zeros : ℕ → List ℕ
 zeros n = replicate n 0
 
+-- a list of a known length has one more after a member is put at its end
 one_more : (xs : List ℕ) (x n : ℕ) → length xs ≡ n → length (xs ++ x ∷ []) ≡ n + 1
 one_more xs x n len = length-append xs (x ∷ []) ∙ ap (λ (k : ℕ). k + 1) len
 
@@ -175,6 +187,7 @@ value_first ver before n least value f row out shown used some range r = record 
   some = λ h. rw some refl;
 }
 
+-- case: no field is left, so the values of all the other classes are zero
 nothing_rises : (ver : ℕ) (before : List ℕ) (n least : ℕ) (out : List ℕ) → out ≡ before ++ zeros n → Rising ver before n least [] out
 nothing_rises ver before zero least out e = record {
   tail = [];
@@ -188,6 +201,7 @@ nothing_rises ver before zero least out e = record {
 nothing_rises ver before (suc n) least out e =
     none_first ver before n least [] out (nothing_rises ver (before ++ 0 ∷ []) n (least + 1) out (e ∙ sym (append_assoc before (0 ∷ []) (zeros n))))
 
+-- setting the zero after the values before puts the new value behind them and leaves the others
 set_here : (before : List ℕ) (c v : ℕ) (more : List ℕ) → length before ≡ c → set (before ++ 0 ∷ more) c v ≡ (before ++ v ∷ []) ++ more
 set_here before c v more len =
     let none : c - c ≡ 0 = omega arith in
@@ -216,6 +230,7 @@ at_class ver (suc far) before (suc n) least class value f row out is len all hig
     none_first ver before n least (f ∷ row) out
     (at_class ver far (before ++ 0 ∷ []) n (least + 1) class value f row out (omega (arith, is)) grown (omega (arith, all)) high shown used some range more now)
 
+-- fields that are read as the rises of the classes from one on are the row of the values read for them
 pub rises_take : (ver : ℕ) (row : Row) (before : List ℕ) (n least : ℕ) (out : List ℕ) → length before ≡ least → least + n ≡ 16 →
     rises_from ver (before ++ zeros n) least row ≡ Ok out → Rising ver before n least row out
 rises_take ver [] before n least out len all e = nothing_rises ver before n least out (sym (ok_is (before ++ zeros n) out e))
@@ -226,6 +241,7 @@ rises_take ver (f ∷ row) before n least out len all e =
     at_class ver (b.value.0 - least) before n least b.value.0 b.value.1 f row out (omega (arith, low)) len all t.high t.shown t.used t.some t.range
     (λ other k l m h. rises_take ver row other k (b.value.0 + 1) out l m h) b.then
 
+-- the row of the rises of the classes from one on is read as those values, behind the values before
 pub rises_again : (ver : ℕ) (vs before : List ℕ) (least class : ℕ) → length before ≡ class → least ≤ class → class + length vs ≡ 16 →
     rise_in_classes ver class vs ≡ true → AreWords vs →
     rises_from ver (before ++ zeros (length vs)) least (rises_row class vs) ≡ Ok (before ++ vs)
@@ -267,5 +283,6 @@ far_set zero i v h = refl
 far_set (suc n) zero v h = absurd (omega (arith, h))
 far_set (suc n) (suc i) v h = ap (λ (l : List ℕ). 0 ∷ l) (far_set n i v (omega (arith, h)))
 
+-- a rise in a class from 16 on, which is none, has no field
 pub far_rise_row : (class value : ℕ) → 16 ≤ class → rises_row 0 (one_rise class value).value ≡ []
 far_rise_row class value h = ap (rises_row 0) (far_set 16 class value h) ∙ no_row 0 16

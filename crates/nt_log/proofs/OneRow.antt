@@ -15,6 +15,7 @@ use Rattle.nt_text.specs.Lines.{Row}
 
 -- ---- numbers
 
+-- numbers below 2^64 with the same decimal digits are equal
 pub decimal_one : (m n : ℕ) → m < 2 ^ 64 → n < 2 ^ 64 → decimal m ≡ decimal n → m ≡ n
 decimal_one m n lm ln e = sym (decimal_is_IsNumeral m lm).1 ∙ ap (digits_value 10) e ∙ (decimal_is_IsNumeral n ln).1
 
@@ -25,12 +26,15 @@ two_digits n least h = elim (short n h) [
   | inr two ↦ two.1
 ]
 
+-- the hexadecimal digits of a number of 32 bits are digits, and their value is the number
 hexadecimal_number : (n : ℕ) → n ≤ 4294967295 → (AllDigits 16 (digits 16 false n)) × (digits_value 16 (digits 16 false n) ≡ n)
 hexadecimal_number n l = let r = digits_is_IsNumeral 16 false (omega arith) (omega arith) n (omega (arith, l)) in (r.0.1, r.1)
 
+-- numbers of 32 bits with the same hexadecimal digits are equal
 pub hexadecimal_one : (m n : ℕ) → m ≤ 4294967295 → n ≤ 4294967295 → digits 16 false m ≡ digits 16 false n → m ≡ n
 hexadecimal_one m n lm ln e = sym (hexadecimal_number m lm).1 ∙ ap (digits_value 16) e ∙ (hexadecimal_number n ln).1
 
+-- a byte whose value as a digit is below 16 is not below the digit zero
 digit_at_least : (c : ℕ) (b : Bool) (x : ℕ) → nat_lt c 48 ≡ b → cond b 36 x < 16 → 48 ≤ c
 digit_at_least c true x e h = absurd (omega (arith, h))
 digit_at_least c false x e h = below c e
@@ -38,6 +42,7 @@ digit_at_least c false x e h = below c e
     below : (c : ℕ) → nat_lt c 48 ≡ false → 48 ≤ c
     below c e = grind (arith, le-ltb)
 
+-- a byte whose value as a digit is below 16 is at most the last printable one
 digit_at_most : (c : ℕ) → digit_value c < 16 → c ≤ 126
 digit_at_most c h = go (nat_le c 126) refl
   where
@@ -55,6 +60,7 @@ digit_at_most c h = go (nat_le c 126) refl
         ) refl in
         absurd (omega (arith, no, h))
 
+-- hexadecimal digits are bytes that a field may have
 digits_field : (ds : List ℕ) → AllDigits 16 ds → is_field ds ≡ true
 digits_field [] h = refl
 digits_field (c ∷ cs) h =
@@ -63,16 +69,19 @@ digits_field (c ∷ cs) h =
     and_from (nat_le 33 c && nat_le c 126) (is_field cs) (and_from (nat_le 33 c) (nat_le c 126) (le-leb 33 c (omega (arith, low))) (le-leb c 126 high))
     (digits_field cs h.1)
 
+-- the hexadecimal digits of a number of 32 bits make a field
 pub hexadecimal_field : (n : ℕ) → n ≤ 4294967295 → is_field (digits 16 false n) ≡ true
 hexadecimal_field n l = digits_field (digits 16 false n) (hexadecimal_number n l).0
 
 -- ---- what is read as the same thing is the same
 
+-- two equal fields that are both read are read as the same value
 pub read_one : {A C : Type 0} (read : List ℕ → Result A C) (f g : List ℕ) (x y : A) → read f ≡ Ok x → read g ≡ Ok y → f ≡ g → x ≡ y
 read_one read f g x y h k e = let both : Ok x ≡ Ok y = sym h ∙ ap read e ∙ k in cc
 
 -- ---- rows of a text
 
+-- rows of fields that give the same lines are the same rows
 unline : (a b : List Row) → AllRows a → AllRows b → map line_of a ≡ map line_of b → a ≡ b
 unline [] [] h k e = refl
 unline [] (s ∷ b) h k e = absurd cc
@@ -96,11 +105,13 @@ pub row_from : (f : List ℕ) (fs : Row) → is_field f ≡ true → list_all is
 row_from f [] h k = (h, tt)
 row_from f (g ∷ fs) h k = let p = and_parts (is_field g) (list_all is_field fs) k in (h, row_from g fs p.0 p.1)
 
+-- each part of a row of fields passes the test of a field
 pub row_to : (row : Row) → IsRow row → list_all is_field row ≡ true
 row_to [] h = absurd h
 row_to (f ∷ []) h = and_from (is_field f) true h.0 refl
 row_to (f ∷ g ∷ fs) h = and_from (is_field f) (list_all is_field (g ∷ fs)) h.0 (row_to (g ∷ fs) h.1)
 
+-- if each value with a property has a row of fields, so have all of a list of such values
 pub map_rows : {X : Type 0} (P : X → Type 0) (row : X → Row) → ((x : X) → P x → IsRow (row x)) → (xs : List X) → AllByRecursion P xs → AllRows (map row xs)
 map_rows P row f [] h = tt
 map_rows P row f (x ∷ xs) h = (f x h.0, map_rows P row f xs h.1)
@@ -145,6 +156,7 @@ map_one P f one (x ∷ xs) (y ∷ ys) h k e =
     let others : xs ≡ ys = map_one P f one xs ys h.1 k.1 more in
     cc
 
+-- if a function takes values with one property to those with another, so it does for all of a list
 pub all_map : {X Y : Type 0} (P : X → Type 0) (Q : Y → Type 0) (f : X → Y) → ((x : X) → P x → Q (f x)) → (xs : List X) → AllByRecursion P xs →
     AllByRecursion Q (map f xs)
 all_map P Q f go [] h = tt

@@ -34,9 +34,11 @@ use Rattle.nt_log.proofs.OneRow.{decimal_one, map_one, map_rows, all_map, read_o
 
 -- ---- things
 
+-- processors that are written the same are the same
 pub cpu_one : (p q : CpuNo) → p.0 < 2 ^ 64 → q.0 < 2 ^ 64 → show_cpu p ≡ show_cpu q → p ≡ q
 cpu_one p q lp lq e = ap cpu (decimal_one p.0 q.0 lp lq e)
 
+-- threads of a sound input that are written with the same name are the same
 pub thread_one : (input : Input) → IsSound input → (t u : ThreadNo) → t.0 < length input.script.threads → u.0 < length input.script.threads →
     show_thread input.names t ≡ show_thread input.names u → t ≡ u
 thread_one input s t u lt lu e =
@@ -48,9 +50,11 @@ thread_one input s t u lt lu e =
 
 -- ---- values that rise
 
+-- decimal digits, read from the left, are numerals with the value read
 own : IsNumeralModel (λ ds. all_ascii_digits ds ≡ true) (read_on 0)
 own = numerals_by_fold _ (search rules) read_on (search rules)
 
+-- decimal digits have no equals sign among them
 no_equals : (ds : List ℕ) → all_ascii_digits ds ≡ true → All (λ b. is_byte 61 b ≡ false) ds
 no_equals [] e k d h = absurd (omega arith)
 no_equals (c ∷ cs) e zero d h =
@@ -66,6 +70,7 @@ rise_parts c v lc lv =
     slice_split_at (is_byte 61) (decimal c) 61 (decimal v) (no_equals (decimal c) (digits_decimal own c lc)) refl
     ∙ ap (λ (r : List (List ℕ)). decimal c ∷ r) (slice_split_none (is_byte 61) (decimal v) (no_equals (decimal v) (digits_decimal own v lv)))
 
+-- the field of a class and its value, both of 64 bits, is that of no other class or value
 rise_one : (c v d w : ℕ) → c < 2 ^ 64 → v < 2 ^ 64 → d < 2 ^ 64 → w < 2 ^ 64 → rise_field c v ≡ rise_field d w → (c ≡ d) × (v ≡ w)
 rise_one c v d w lc lv ld lw e =
     let both : decimal c ∷ decimal v ∷ [] ≡ decimal d ∷ decimal w ∷ [] = sym (rise_parts c v lc lv) ∙ ap (parts 61) e ∙ rise_parts d w ld lw in
@@ -89,6 +94,7 @@ none_below c w k (v ∷ vs) fs lt few lw h e = go (v == 0) e (none_below c w (k 
         let r = rise_one k v c w (omega (arith, few)) (omega (arith, h.0)) (omega (arith, lt, few)) lw head in
         sym r.0
 
+-- equally many values of 64 bits that are written as the same fields are the same values
 rises_one : (k : ℕ) (vs ws : List ℕ) → length vs ≡ length ws → k + length vs < 2 ^ 64 → AreWords vs → AreWords ws → rises_row k vs ≡ rises_row k ws → vs ≡ ws
 rises_one k [] [] l few h g e = refl
 rises_one k [] (w ∷ ws) l few h g e = absurd (omega (arith, l))
@@ -119,14 +125,17 @@ rises_one k (v ∷ vs) (w ∷ ws) l few h g e = go (v == 0) (w == 0) refl refl e
         let rest : vs ≡ ws = others more in
         cc
 
+-- looks with the same list of values are the same
 rises_same : (r s : Rises) → r.value ≡ s.value → r ≡ s
 rises_same r s e = ap (λ (v : List ℕ). record { value = v }) e
 
 -- ---- turns
 
+-- the first byte of a row's first field, and 0 if there is none
 first_byte : Row → ℕ
 first_byte row = get_or (get_or row 0 []) 0 0
 
+-- turns that are written as the same row are the same
 pub turn_one : (input : Input) → IsSound input → (t u : Turn) → TurnIsPlain input t → TurnIsPlain input u → turn_row input.names t
     ≡ turn_row input.names u → t ≡ u
 unfolding first_byte
@@ -149,11 +158,13 @@ turn_one input s (Switch p t) (Switch q u) h k e =
     cc
 turn_one input s t u h k e = absurd (omega (arith, ap first_byte e))
 
+-- a class and its value, both of 64 bits, are written as a field
 rise_clean : (c v : ℕ) → c < 2 ^ 64 → v < 2 ^ 64 → is_field (rise_field c v) ≡ true
 rise_clean c v lc lv =
     list_all-append (λ b. nat_le 33 b && nat_le b 126) (decimal c) (61 ∷ decimal v)
     ∙ and_from (is_field (decimal c)) (is_field (61 ∷ decimal v)) (decimal_field c lc) (decimal_field v lv)
 
+-- values of 64 bits are written as a list of fields
 rises_clean : (k : ℕ) (vs : List ℕ) → k + length vs < 2 ^ 64 → AreWords vs → list_all is_field (rises_row k vs) ≡ true
 rises_clean k [] few h = refl
 rises_clean k (v ∷ vs) few h = go (v == 0) (rises_clean (k + 1) vs (omega (arith, few)) h.1)
@@ -164,6 +175,7 @@ rises_clean k (v ∷ vs) few h = go (v == 0) (rises_clean (k + 1) vs (omega (ari
     go false more = and_from (is_field (rise_field k v)) (list_all is_field (rises_row (k + 1) vs))
         (rise_clean k v (omega (arith, few)) (omega (arith, h.0))) more
 
+-- the row of a turn that a text may have is a row of fields
 pub turn_clean : (input : Input) → IsSound input → (t : Turn) → TurnIsPlain input t → IsRow (turn_row input.names t)
 turn_clean input s (Next p) h = (refl, (decimal_field p.0 (omega (arith, h)), tt))
 turn_clean input s (Look p r) h =
@@ -184,6 +196,7 @@ most_turns cpus = go (nat_le cpus 8)
     go true = omega arith
     go false = omega arith
 
+-- the rows of a schedule that a text may have are rows of fields
 pub schedule_clean : (input : Input) → IsSound input → (s : Schedule) → IsPlain input s → AllRows (schedule_rows input.names s)
 schedule_clean input sound s plain =
     let most = plain.limit.1 in
@@ -193,9 +206,11 @@ schedule_clean input sound s plain =
           (map_rows (TurnIsPlain input) (turn_row input.names) (turn_clean input sound) s.list plain.turns) ((refl, tt), tt),
     )
 
+-- whether a row begins with the letter of the word that ends the schedule
 is_done : Row → Bool
 is_done row = first_byte row == 100
 
+-- the row of a turn does not begin with the letter of the word that ends the schedule
 no_turn_is_done : (input : Input) (t : Turn) → TurnIsPlain input t → is_done (turn_row input.names t) ≡ false
 unfolding is_done first_byte
 no_turn_is_done input (Next p) h = refl
@@ -205,9 +220,11 @@ no_turn_is_done input (Switch p t) h = refl
 abbrev schedule : ℕ → List Turn → Schedule
 schedule n xs = record { turns = n; list = xs }
 
+-- schedules with the same turn limit and the same turns are the same
 schedule_same : (s r : Schedule) → s.turns ≡ r.turns → s.list ≡ r.list → s ≡ r
 schedule_same s r turns list = ap (λ (n : ℕ). schedule n s.list) turns ∙ ap (λ (xs : List Turn). schedule r.turns xs) list
 
+-- schedules that are written as the same rows are the same
 pub turns_one : (input : Input) → IsSound input → (s r : Schedule) → IsPlain input s → IsPlain input r → schedule_rows input.names s
     ≡ schedule_rows input.names r → s ≡ r
 unfolding is_done first_byte
@@ -227,6 +244,7 @@ turns_one input sound s r h k e =
     let bound = most_turns input.script.cpus in
     schedule_same s r (decimal_one s.turns r.turns (omega (arith, most, bound)) (omega (arith, most2, bound)) limit) same
 
+-- bytes are the text of one schedule at most, for one input
 pub one_schedule : (bytes : List ℕ) (input : Input) (s r : Schedule) → IsTextOf bytes input s → IsTextOf bytes input r → s ≡ r
 one_schedule bytes input s r h k =
     turns_one input h.sound s r h.plain k.plain

@@ -46,6 +46,7 @@ use Rattle.nt_log.proofs.Looks.{rises_again, rises_take}
 abbrev pub ok : {A : Type 0} → A → Result A ScriptKind
 ok x = Ok x
 
+-- a reader of a turn that succeeds with one gives that turn
 ok_is : {A : Type 0} (x y : A) → ok x ≡ Ok y → x ≡ y
 ok_is x y e = cc
 
@@ -58,6 +59,7 @@ record Says (cpus : ℕ) (input : Input) (word : List ℕ) (args : Row) (t : Tur
   plain : TurnIsPlain input t
   below : (cpu_at t).0 < cpus
 
+-- fields that are read as a turn in which a processor does its next step are those of that turn
 next_takes : (cpus : ℕ) (input : Input) → cpus ≤ CPUS → IsSound input → (args : Row) (t : Turn) → read_next cpus args ≡ Ok t →
     Says cpus input (codes "next") args t
 next_takes cpus input most sound args t e =
@@ -65,6 +67,7 @@ next_takes cpus input most sound args t e =
     takes1 (cpu_takes cpus) (Says cpus input (codes "next")) Next
     (λ p h. record { word_is = refl; fields_are = refl; plain = omega (arith, h, most); below = h }) args t k.then (counted_ok (length args) 1 k.value k.is)
 
+-- fields that are read as a switch to a thread are those of that switch, and the script has the thread
 switch_takes : (cpus : ℕ) (input : Input) → cpus ≤ CPUS → IsSound input → (args : Row) (t : Turn) → read_switch cpus input.names args ≡ Ok t →
     Says cpus input (codes "switch") args t
 switch_takes cpus input most sound args t e =
@@ -75,11 +78,13 @@ switch_takes cpus input most sound args t e =
     (λ p u h g. record { word_is = refl; fields_are = refl; plain = (omega (arith, h, most), omega (arith, g, len)); below = h }) args t k.then
     (counted_ok (length args) 2 k.value k.is)
 
+-- a row of two or more fields is its first field and at least one other
 two_there : (args : Row) → 2 ≤ length args → (args ≡ first args ∷ rest args) × (1 ≤ length (rest args))
 two_there [] h = absurd (omega (arith, h))
 two_there (a ∷ []) h = absurd (omega (arith, h))
 two_there (a ∷ b ∷ args) h = (refl, omega arith)
 
+-- fields that are read as a look are those of that look, with values in classes only
 look_takes : (cpus : ℕ) (input : Input) → cpus ≤ CPUS → IsSound input → (args : Row) (t : Turn) → read_look cpus input.version args ≡ Ok t →
     Says cpus input (codes "look") args t
 look_takes cpus input most sound args t e = go (nat_lt (length args) 2) refl e
@@ -116,6 +121,7 @@ pub record TurnTaken (cpus : ℕ) (input : Input) (row : Row) (t : Turn) : Type 
   pub plain : TurnIsPlain input t
   pub below : (cpu_at t).0 < cpus
 
+-- fields that are read as a turn are the row of that turn, and the turn is one that a text may have
 pub turn_takes : (cpus : ℕ) (input : Input) → cpus ≤ CPUS → IsSound input → (f : List ℕ) (args : Row) (t : Turn) →
     read_turn cpus input (f ∷ args) ≡ Ok t → TurnTaken cpus input (f ∷ args) t
 turn_takes cpus input most sound f args t e =
@@ -140,21 +146,26 @@ turn_takes cpus input most sound f args t e =
 
 -- ---- what is written
 
+-- a processor below the count is read from how it is shown
 any_cpu_read : (cpus : ℕ) (p : CpuNo) → p.0 ≤ 255 → p.0 < cpus → read_cpu cpus (show_cpu p) ≡ Ok p
 any_cpu_read cpus p le lt = rw (number_up_to_again 255 p.0 (lit< tt) le, lt-ltb p.0 cpus lt) refl
 
+-- the text of a processor up to 63 that is there is read as that processor
 pub cpu_read : (cpus : ℕ) (p : CpuNo) → p.0 ≤ 63 → p.0 < cpus → read_cpu cpus (show_cpu p) ≡ Ok p
 cpu_read cpus p le lt = any_cpu_read cpus p (omega (arith, le)) lt
 
+-- a thread of the script is read from its name
 thread_read : (input : Input) → IsSound input → (t : ThreadNo) → t.0 < length input.script.threads → read_thread input.names (show_thread input.names t) ≡ Ok t
 thread_read input sound t lt =
     let fit = sound_fits input sound in
     let len = fit.thread_count in
     (are_read input.names fit.few fit.names).threads t (omega (arith, lt, len))
 
+-- a step after one that gave a value goes on with that value
 pub bind_is : {A B : Type 0} (r : Result A ScriptKind) (f : A → Result B ScriptKind) (x : A) → r ≡ Ok x → (r >>= f) ≡ f x
 bind_is r f x e = ap (λ r. r >>= f) e
 
+-- values that are not all zero are written as one field or more
 some_rises : (class : ℕ) (vs : List ℕ) → list_any (λ v. not (v == 0)) vs ≡ true → 1 ≤ length (rises_row class vs)
 some_rises class [] e = absurd cc
 some_rises class (v ∷ vs) e = go (v == 0) e (λ h. some_rises (class + 1) vs h)
@@ -165,6 +176,7 @@ some_rises class (v ∷ vs) e = go (v == 0) e (λ h. some_rises (class + 1) vs h
     go true e more = more e
     go false e more = omega arith
 
+-- the fields of a look by a processor below the count are read as that look
 look_again : (cpus ver : ℕ) (p : CpuNo) (r : Rises) → p.0 ≤ 63 → AreRises ver r → p.0 < cpus →
     read_look cpus ver (show_cpu p ∷ rises_row 0 r.value) ≡ Ok (Look p r)
 look_again cpus ver p r le all lt =
@@ -180,6 +192,7 @@ look_again cpus ver p r le all lt =
     ∙ bind_is (read_rises ver (rises_row 0 r.value)) (λ r. ok (Look p r)) r
     (bind_is (rises_from ver (replicate 16 0) 0 (rises_row 0 r.value)) (λ (vs : List ℕ). ok {A = Rises} (record { value = vs })) r.value values))
 
+-- the row of a turn that a text may have, of a processor that is there, is read as that turn
 pub turn_again : (cpus : ℕ) (input : Input) → IsSound input → (t : Turn) → TurnIsPlain input t → (cpu_at t).0 < cpus →
     read_turn cpus input (turn_row input.names t) ≡ Ok t
 turn_again cpus input sound (Next p) h lt = bind_is (read_cpu cpus (show_cpu p)) (λ p. ok (Next p)) p (cpu_read cpus p h lt)

@@ -64,6 +64,7 @@ module _ (key : Sizes) (words : List ℕ) (views : List View) (log : List Entry)
             (r.each j u g));
       }
 
+-- a mark of an entry that the seat drew keeps the rule, if its processor and class are in range
 mark_keeps : (key : Sizes) (words : List ℕ) (views : List View) (log : List Entry) (lists : List (List Note)) (id : ℕ) (v : View) (p : CpuNo) (class n : ℕ) →
     get_elem? views id ≡ some v
     → Keeps key words views log lists → p.0 < key.cpus → class ≤ 15 → ((e : Entry) × Contains v.entries e × (e.number ≡ n))
@@ -102,6 +103,7 @@ mark_keeps key words views log lists id v p class n at r inside_cpus inside_clas
     greater : (P : ℕ → Type 0) (x y : ℕ) → P x → P y → P (max x y)
     greater P x y px py = dite (ℕ_discrete (max x y) x) (λ e. subst P (sym e) px) (λ ne. let e : max x y ≡ y = omega arith in subst P (sym e) py)
 
+-- a seat with an entry of a number may raise a request word to one more than it and mark it, and the rule stays
 pub marking : {S : Type 0} (key : Sizes) (slots id : ℕ) (me : Me S View) (p : CpuNo) (class n i k : ℕ) → i ≡ request_word p class → k
     ≡ (n + 1) % 18446744073709551616 → p.0 < key.cpus → class ≤ 15
     → ((e : Entry) × Contains me.0.entries e × (e.number ≡ n))
@@ -128,6 +130,7 @@ marking key slots id me p class n i k at_word is inside_cpus inside_classes drew
       (refl, refl),
     )
 
+-- a look at the request word of a processor and class in range keeps the rule
 look_keeps : (key : Sizes) (words : List ℕ) (views : List View) (log : List Entry) (lists : List (List Note)) (id : ℕ) (v : View) (p : CpuNo) (class : ℕ) →
     get_elem? views id ≡ some v
     → Keeps key words views log lists → p.0 < key.cpus → class ≤ 15
@@ -161,6 +164,7 @@ look_keeps key words views log lists id v p class at r inside_cpus inside_classe
           (Contains-push_cases v.looks (look_of p class a) l h);
     }
 
+-- loading a request word and adding the look to the seat keeps the rule of the table
 pub looking : {S : Type 0} (key : Sizes) (slots id : ℕ) (me : Me S View) (p : CpuNo) (class i : ℕ) → i ≡ request_word p class → p.0 < key.cpus → class ≤ 15
     → Allows (Holds {S = S} key) slots id me i (λ a. a) (λ a m'. Looks p class me a m')
 looking key slots id me p class i at_word inside_cpus inside_classes s h count at small =

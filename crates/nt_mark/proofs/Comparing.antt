@@ -11,6 +11,7 @@ use Rattle.nt_mark.specs.Views.{both, first_notes, known_lists, telling}
 use Rattle.nt_mark.specs.Rule.{Compares, Holds, IsBeginning, IsLongest, Keeps}
 use Rattle.nt_mark.proofs.Sums.{in_first, set_here}
 
+-- a load of any word keeps the rule and tells that each list the seat keeps is the longest that it knows
 pub comparing : {S : Type 0} (key : Sizes) (slots id : ℕ) (me : Me S View) (i : ℕ) →
     Allows (Holds {S = S} key) slots id me i (λ a. a) (λ a m'. Compares me m')
 comparing key slots id me i s h count at small =
@@ -41,6 +42,7 @@ module _ (k : LaneList) (v w u : View) (one : v.kept ≡ k ∷ []) (is : u ≡ b
   its_list : u.kept ≡ k ∷ []
   its_list = ap (λ (z : View). z.kept) is ∙ ap (λ (ks : List LaneList). ks ++ []) one
 
+  -- a keeper told all that a pass knows has the longest list of its lane, and so has it for that pass
   pub longest_told : (x : ℕ) (u' w' : View) → k.lane ≡ x → u' ≡ u → w' ≡ w → IsLongest x (first_notes u'.kept) w'
   longest_told x u' w' lane same_u same_w =
       let keeps : Contains u.kept k = subst (λ (ks : List LaneList). Contains ks k) (sym its_list) (in_first k []) in

@@ -28,6 +28,7 @@ sum_cut f views id v left right at sum =
     let b = sum_changed f views id v left at in
     omega arith
 
+-- a mark stays some seat's mark after the seat is cut in two, if the left part keeps all its marks
 marks_cut : (views : List View) (id : ℕ) (v left right : View) → get_elem? views id ≡ some v → left.marks ≡ v.marks → (m : Mark) → IsMarked views m →
     IsMarked (set views id left ++ right ∷ []) m
 marks_cut views id v left right at same t m = dite (ℕ_discrete m.0 id)
@@ -143,6 +144,7 @@ sum_met f views id other v w at apart there' sum zero_spent =
     let b = sum_changed f views id v (both v w) at in
     omega arith
 
+-- a mark stays some seat's mark after two different seats become one
 marks_met : (views : List View) (id other : ℕ) (v w : View) → get_elem? views id ≡ some v → other ≢ id → get_elem? views other ≡ some w
     → (m : Mark) → IsMarked views m → IsMarked (set (set views id (both v w)) other spent) m
 marks_met views id other v w at apart at2 t m =
@@ -159,6 +161,7 @@ marks_met views id other v w at apart at2 t m =
     (id, b, first, Contains-append_right v.marks w.marks t (subst (λ (u : View). Contains u.marks t) (sym is) m.3)))
     (λ ne2. (m.0, m.1, set_else (set views id b) other m.0 spent ne2 ∙ (set_else views id m.0 b ne ∙ m.2), m.3)))
 
+-- two seats of one table become one that has all of both, one of them is left with nothing, and the rule stays
 pub joining : {S : Type 0} (key : Sizes) (id other : ℕ) (v w : View) → Joins (Holds {S = S} key) id v other w (both v w) spent
 joining key id other v w s h at apart there' =
     let r = h.2 in

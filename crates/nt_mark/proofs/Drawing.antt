@@ -33,6 +33,7 @@ marks_set views id v w at more t m = dite (ℕ_discrete m.0 id)
     (id, w, there views id v w at, more t (subst (λ (u : View). Contains u.marks t) (sym same) m.3)))
     (λ other. (m.0, m.1, set_else views id m.0 w other ∙ m.2, m.3))
 
+-- a request value that was asked by some mark stays so if all marks are kept
 pub asked_more : (views views' : List View) → ((m : Mark) → IsMarked views m → IsMarked views' m) → (p : CpuNo) (class a : ℕ) → IsAsked views p class a →
     IsAsked views' p class a
 asked_more views views' more p class a h = ⊎_elim (λ z. inl z) (λ s. inr (s.0, s.1, more (mark_of p class s.0) s.2)) h
@@ -98,6 +99,7 @@ asked_below key words views log lists r p class a h = ⊎_elim (λ (z : a ≡ 0)
     let is = s.1 in
     omega arith) h
 
+-- a draw of the next number keeps the rule, if the seat has drawn less than its parts allow
 draw_keeps : (key : Sizes) (words : List ℕ) (views : List View) (log : List Entry) (lists : List (List Note)) (id : ℕ) (v : View) (e : Event) (ls : List ℕ)
     → length v.entries < key.limit * v.parts → get_elem? views id ≡ some v → Keeps key words views log lists
     → Keeps key (set words 0 (get_or words 0 0 + 1)) (set views id (drawn v (get_or words 0 0) e ls)) (log ++ entry (get_or words 0 0) e ls ∷ []) lists
@@ -151,6 +153,7 @@ draw_keeps key words views log lists id v e ls room at r =
           (λ k h. refl) (r.each j u g));
     }
 
+-- a seat with room for an entry may count the step word up and take its number, and the rule stays
 pub draws : {S : Type 0} (key : Sizes) (slots id : ℕ) (me : Me S View) (e : Event) (ls : List ℕ) (most : ℕ) → length me.0.entries < key.limit * me.0.parts →
     most ≡ key.limit * key.parts
     → Allows (Holds {S = S} key) slots id me 0 (λ n. (n + 1) % 18446744073709551616) (λ n m'. Draws e ls most me n m')

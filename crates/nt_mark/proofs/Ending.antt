@@ -27,6 +27,7 @@ pub record IsWhole (lanes : ℕ) (v : View) (count : ℕ) : Type 0 where
   pub prefixes : (q : LaneList) → Contains v.prefixes q → (k : LaneList) × Contains v.kept k × (k.lane ≡ q.lane) × IsBeginning q.notes k.notes
   pub looks : (l : Look) → Contains v.looks l → WasAsked v l
 
+-- a seat with all parts and all lanes has each number drawn once, each lane once, and only looks at asked values
 pub whole : (key : Sizes) (words : List ℕ) (views : List View) (log : List Entry) (lists : List (List Note)) → Keeps key words views log lists
     → (id : ℕ) (v : View) → get_elem? views id ≡ some v → v.parts ≡ key.parts → length v.kept ≡ key.lanes → IsWhole key.lanes v (get_or words 0 0)
 whole key words views log lists r id v at parts lanes =

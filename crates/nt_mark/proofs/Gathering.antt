@@ -30,6 +30,7 @@ use Rattle.nt_mark.proofs.Ending.{IsWhole, whole}
 abbrev seats : Pass → List Pass → List Keeper → View
 seats p others keepers = gathered (passes p others) (keeper_views keepers)
 
+-- gathering views with one more at the end is putting that one to the first view before gathering
 gathered_push : (v : View) (ws : List View) (w : View) → gathered v (ws ++ w ∷ []) ≡ gathered (both v w) ws
 gathered_push v [] w = refl
 gathered_push v (x ∷ ws) w = ap (λ (u : View). both u x) (gathered_push v ws w)
@@ -39,14 +40,17 @@ pub gathered_pass : (v : View) (before after : List Pass) (x : Pass) → before 
     ≡ gathered (both v (pass_view x)) (pass_views after)
 gathered_pass v before after x is = ap (gathered v) (ap pass_views is ∙ map-append pass_view after (x ∷ [])) ∙ gathered_push v (pass_views after) (pass_view x)
 
+-- gathering all keepers with a view is joining the last one to the view and gathering the others with that
 pub gathered_keeper : (v : View) (before after : List Keeper) (x : Keeper) → before ≡ after ++ x ∷ [] → gathered v (keeper_views before)
     ≡ gathered (both v (keeper_view x)) (keeper_views after)
 gathered_keeper v before after x is = ap (gathered v) (ap keeper_views is ∙ map-append keeper_view after (x ∷ []))
     ∙ gathered_push v (keeper_views after) (keeper_view x)
 
+-- appending a list of length zero leaves a list as it was
 nothing_more : {A : Type 0} (xs ys : List A) → length ys ≡ 0 → xs ++ ys ≡ xs
 nothing_more {A} xs ys none = ap (λ (l : List A). xs ++ l) (none_left ys (omega arith)) ∙ append-nil xs
 
+-- passes gathered to a view that keeps no lane keep no lane
 passes_keep_none : (v : View) (ps : List Pass) → length v.kept ≡ 0 → length (gathered v (pass_views ps)).kept ≡ 0
 passes_keep_none v [] h = h
 passes_keep_none v (p ∷ ps) h = let a = passes_keep_none v ps h in let b = p.no_lane in
@@ -82,14 +86,17 @@ entries_stay : (v : View) (ks : List Keeper) → (gathered v (keeper_views ks)).
 entries_stay v [] = refl
 entries_stay v (k ∷ ks) = nothing_more (gathered v (keeper_views ks)).entries (keeper_view k).entries k.no_entry ∙ entries_stay v ks
 
+-- gathering keepers to a view leaves its marks as they were
 marks_stay : (v : View) (ks : List Keeper) → (gathered v (keeper_views ks)).marks ≡ v.marks
 marks_stay v [] = refl
 marks_stay v (k ∷ ks) = nothing_more (gathered v (keeper_views ks)).marks (keeper_view k).marks k.no_mark ∙ marks_stay v ks
 
+-- gathering keepers to a view leaves its looks as they were
 looks_stay : (v : View) (ks : List Keeper) → (gathered v (keeper_views ks)).looks ≡ v.looks
 looks_stay v [] = refl
 looks_stay v (k ∷ ks) = nothing_more (gathered v (keeper_views ks)).looks (keeper_view k).looks k.no_look ∙ looks_stay v ks
 
+-- gathering keepers to a view leaves its parts as they were
 parts_stay : (v : View) (ks : List Keeper) → (gathered v (keeper_views ks)).parts ≡ v.parts
 parts_stay v [] = refl
 parts_stay v (k ∷ ks) = let a = parts_stay v ks in let b = k.no_part in omega arith
@@ -100,6 +107,7 @@ its_list k =
     let m = kept_of (keeper_view k).kept k.lane k.word k.one_lane k.its_word in
     (m.0, m.1, m.2, sym (ap first_notes m.1))
 
+-- gathering keepers to a view adds one kept lane for each keeper
 lanes_added : (v : View) (ks : List Keeper) → length (gathered v (keeper_views ks)).kept ≡ length v.kept + length ks
 lanes_added v [] = omega arith
 lanes_added v (k ∷ ks) =
@@ -109,6 +117,7 @@ lanes_added v (k ∷ ks) =
     let b = length-append (gathered v (keeper_views ks)).kept (keeper_view k).kept in
     omega arith
 
+-- a sum over the kept lanes of keepers gathered to a view that keeps none is the sum over the keepers' lanes
 lane_sum : (h : ℕ → ℕ) (v : View) (ks : List Keeper) → length v.kept ≡ 0 → sum_by (λ (m : LaneList). h m.lane) (gathered v (keeper_views ks)).kept
     ≡ sum_by h (keeper_lanes ks)
 lane_sum h v [] none = ap (sum_by (λ (m : LaneList). h m.lane)) (none_left v.kept (omega arith))
@@ -124,6 +133,7 @@ lane_sum h v (k ∷ ks) none =
     let z : sum_by f [] ≡ 0 = refl in
     omega arith
 
+-- each gathered keeper's lane is kept, with the keeper's notes
 list_of : (v : View) (ks : List Keeper) (k : Keeper) → Contains ks k → (m : LaneList) × Contains (gathered v (keeper_views ks)).kept m × (m.lane ≡ k.lane) ×
     (m.notes ≡ keeper_notes k)
 list_of v [] k h = absurd (in_none k h)
@@ -140,6 +150,7 @@ list_of v (x ∷ ks) k h = ⊎_elim
     (λ r. let m = list_of v ks k r in (m.0, Contains-append_left (gathered v (keeper_views ks)).kept (keeper_view x).kept m.0 m.1, m.2, m.3))
     (first_or_rest x ks k h)
 
+-- each lane kept after gathering keepers to a view that keeps none is a keeper's, with its notes
 keeper_of : (v : View) (ks : List Keeper) → length v.kept ≡ 0 → (m : LaneList) → Contains (gathered v (keeper_views ks)).kept m → (k : Keeper) ×
     Contains ks k × (k.lane ≡ m.lane) × (keeper_notes k ≡ m.notes)
 keeper_of v [] none m h = absurd (in_none m (subst (λ (l : List LaneList). Contains l m) (none_left v.kept (omega arith)) h))
@@ -151,6 +162,7 @@ keeper_of v (x ∷ ks) none m h = ⊎_elim
     (x, in_first x ks, sym l.2 ∙ ap (λ (q : LaneList). q.lane) (sym is), sym l.3 ∙ ap (λ (q : LaneList). q.notes) (sym is)))
     (Contains-append_cases (gathered v (keeper_views ks)).kept (keeper_view x).kept m h)
 
+-- what holds of each element of a list holds of all of it
 each_of : {A : Type 0} (P : A → Type 0) (xs : List A) → ((x : A) → Contains xs x → P x) → All P xs
 each_of P xs h k d lt = h (get_or xs k d) (Contains-get_or xs k d lt)
 
@@ -162,6 +174,7 @@ once_below xs n all k = all (at_one k) ∙ once (nat_lt k n) refl
     once true e = one_at k n (ltb-true k n e)
     once false e = none_below k n (ltb-false k n e)
 
+-- a sum over a mapped list is the sum of the composed function over the list
 sum_map : {A : Type 0} (f : ℕ → ℕ) (g : A → ℕ) (xs : List A) → sum_by f (map g xs) ≡ sum_by (λ (x : A). f (g x)) xs
 sum_map f g [] = refl
 sum_map {A} f g (x ∷ xs) = let a = sum_map f g xs in let b = sum_by-cons f (g x) (map g xs) in let c = sum_by-cons (λ (y : A). f (g y)) x xs in omega arith
@@ -177,6 +190,7 @@ pub record IsEnd (lanes : ℕ) (p : Pass) (others : List Pass) (keepers : List K
   pub prefixes : All (λ (v : View). All (IsOfKeeper keepers) v.prefixes) (seat_views p others keepers)
   pub looks : All (WasAsked (passes p others)) (passes p others).looks
 
+-- if all passes and keepers are whole as one seat, each number was drawn once and each lane has one keeper
 ends : (lanes : ℕ) (p : Pass) (others : List Pass) (keepers : List Keeper) (count : ℕ) → IsWhole lanes (seats p others keepers) count →
     IsEnd lanes p others keepers count
 ends lanes p others keepers count w =

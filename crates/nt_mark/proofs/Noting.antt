@@ -36,6 +36,7 @@ kept_apart key words views log lists r i j v w e g ne k m hk hm same =
     let b : at_one x m.lane ≡ at_one x x = ap (at_one x) (sym same) in
     absurd (omega arith)
 
+-- the last number noted in a list is below each number that may be noted next
 last_below : (n : ℕ) (xs : List Note) → IsAbove n xs → 0 < length xs → get_or (note_numbers xs) (length xs - 1) 0 < n
 last_below n [] a h = absurd (omega arith)
 last_below n (x ∷ []) a h = a
@@ -44,16 +45,19 @@ last_below n (x ∷ y ∷ ys) a h =
     let e : length (x ∷ y ∷ ys) - 1 ≡ suc (length (y ∷ ys) - 1) = omega arith in
     subst (λ (k : ℕ). get_or (note_numbers (x ∷ y ∷ ys)) k 0 < n) (sym e) b
 
+-- a number above the last note of a list stays above it if it grows
 pub IsAbove-le : (m n : ℕ) (xs : List Note) → IsAbove m xs → m ≤ n → IsAbove n xs
 IsAbove-le m n [] a h = tt
 IsAbove-le m n (x ∷ []) a h = omega arith
 IsAbove-le m n (x ∷ y ∷ ys) a h = IsAbove-le m n (y ∷ ys) a h
 
+-- a number above the last note is above a list that ends with a note of a smaller number
 pub IsAbove-push : (n : ℕ) (xs : List Note) (x : Note) → x.number < n → IsAbove n (xs ++ x ∷ [])
 IsAbove-push n [] x h = h
 IsAbove-push n (y ∷ []) x h = h
 IsAbove-push n (y ∷ z ∷ zs) x h = IsAbove-push n (z ∷ zs) x h
 
+-- rising note numbers still rise after a note above the last one is added
 rises_push : (xs : List Note) (x : Note) → IsStrictlyIncreasing (note_numbers xs) → IsAbove x.number xs → IsStrictlyIncreasing (note_numbers (xs ++ x ∷ []))
 rises_push xs x r a = subst IsStrictlyIncreasing (sym (map-append (λ (n : Note). n.number) xs (x ∷ []))) pushed
   where
@@ -72,6 +76,7 @@ rises_push xs x r a = subst IsStrictlyIncreasing (sym (map-append (λ (n : Note)
         omega arith)
         (λ ne. let b = r k (omega arith) in let next = get_or_append_left ns (x.number ∷ []) 0 (k + 1) (omega arith) in omega arith)
 
+-- a strictly increasing list of numbers has at each place a number at least as great as the place
 climbs : (xs : List ℕ) → IsStrictlyIncreasing xs → (k : ℕ) → k < length xs → k ≤ get_or xs k 0
 climbs xs r zero lt = zero-le
 climbs xs r (suc k) lt =
@@ -81,6 +86,7 @@ climbs xs r (suc k) lt =
     let c : get_or xs (k + 1) 0 ≡ get_or xs (suc k) 0 = ap (λ (i : ℕ). get_or xs i 0) e in
     omega arith
 
+-- the number at each place of a list of notes is that of a note in it
 note_at : (xs : List Note) (k : ℕ) → k < length xs → (y : Note) × Contains xs y × (y.number ≡ get_or (note_numbers xs) k 0)
 note_at [] k lt = absurd (omega arith)
 note_at (x ∷ xs) zero lt = (x, in_first x xs, refl)
@@ -97,6 +103,7 @@ list_bound (x ∷ xs) n r h =
     let c = y.2 in
     omega arith
 
+-- a note of a known entry keeps the rule, if its number is above those on the lane's list
 note_keeps : (key : Sizes) (words : List ℕ) (views : List View) (log : List Entry) (lists : List (List Note)) (id : ℕ) (v : View) (k : LaneList) (x : Note) →
     get_elem? views id ≡ some v
     → Keeps key words views log lists → v.kept ≡ k ∷ [] → IsAbove x.number k.notes →
@@ -179,6 +186,7 @@ kept_of [] x y e f = absurd (cc)
 kept_of (k ∷ []) x y e f = (k, refl, cc, cc)
 kept_of (k ∷ m ∷ ks) x y e f = absurd (cc)
 
+-- a keeper of one lane may note an entry that it knows, if it is of that lane and above the last note
 pub noting : {S : Type 0} (key : Sizes) (slots id : ℕ) (me : Me S View) (k : LaneList) (x : Note) (i : ℕ) → i ≡ k.word → me.0.kept ≡ k ∷ [] →
     IsAbove x.number k.notes
     → ((e : Entry) × Contains (known_entries me.0) e × (e.number ≡ x.number) × Contains e.lanes k.lane)

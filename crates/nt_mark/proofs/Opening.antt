@@ -22,26 +22,31 @@ use Rattle.nt_mark.specs.Rule.{sum_below, empty_lists, opening_view, Fits, Holds
 use Rattle.nt_mark.specs.Closing.{IsNewKeeper, AreNewKeepers}
 use Rattle.nt_mark.proofs.Sums.{in_none, first_or_rest}
 
+-- so many empty lists of notes
 nils : ℕ → List (List Note)
 nils zero = []
 nils (suc n) = [] ∷ nils n
 
+-- each of so many empty lists is empty, also beyond the end
 nil_at : (n x : ℕ) → get_or (nils n) x [] ≡ []
 unfolding nils
 nil_at zero x = refl
 nil_at (suc n) zero = refl
 nil_at (suc n) (suc x) = nil_at n x
 
+-- so many empty lists are so many
 length_nils : (n : ℕ) → length (nils n) ≡ n
 unfolding nils
 length_nils zero = refl
 length_nils (suc n) = ap suc (length_nils n)
 
+-- each word of a list of zeros is zero, also beyond the end
 zero_at : (n i : ℕ) → ◌≡◌ {A = ℕ} (get_or (replicate n 0) i 0) 0
 zero_at zero i = refl
 zero_at (suc n) zero = refl
 zero_at (suc n) (suc i) = zero_at n i
 
+-- a sum over the empty lists of consecutive lanes is that over the numbers of these lanes
 lanes_sum : (h : ℕ → ℕ) (cpus lane n : ℕ) → sum_by (λ (k : LaneList). h k.lane) (empty_lists cpus lane n) + sum_below h lane ≡ sum_below h (lane + n)
 lanes_sum h cpus lane zero = let e : sum_below h lane ≡ sum_below h (lane + 0) = (let d : lane ≡ lane + 0 = omega arith in ap (sum_below h) d) in
     let z : sum_by (λ (k : LaneList). h k.lane) [] ≡ 0 = refl in omega arith
@@ -53,6 +58,7 @@ lanes_sum h cpus lane (suc n) =
     let e = sum_by-cons (λ (k : LaneList). h k.lane) k (empty_lists cpus (lane + 1) n) in
     omega arith
 
+-- each empty list that is dealt has a lane in range, no notes and that lane's word
 empty_fits : (cpus lane n : ℕ) (k : LaneList) → Contains (empty_lists cpus lane n) k → (k.lane < lane + n) × (k.notes ≡ []) × (k.word ≡ lane_word cpus k.lane)
 empty_fits cpus lane zero k h = absurd (in_none k h)
 empty_fits cpus lane (suc n) k h = ⊎_elim
@@ -62,6 +68,7 @@ empty_fits cpus lane (suc n) k h = ⊎_elim
     (omega arith, ap (λ (q : LaneList). q.notes) e, omega arith))
     (λ r. let a = empty_fits cpus (lane + 1) n k r in (let b = a.0 in omega arith, a.1, a.2)) (first_or_rest _ (empty_lists cpus (lane + 1) n) k h)
 
+-- the rule holds at the start, with all words zero and one seat that has all parts and keeps all lanes
 pub opens : (S : Type 0) (key : Sizes) (words : List ℕ) → words ≡ replicate (1 + 16 * key.cpus + key.lanes) 0 → key.limit * key.parts ≤ EVENTS →
     Holds {S = S} key (opening words [] (opening_view key))
 opens S key words is small =
@@ -120,6 +127,7 @@ one_given {S} key lane n m me me' is pos less next =
 pub all_empty : (cpus lane n : ℕ) → All (λ (q : LaneList). q.notes ≡ []) (empty_lists cpus lane n)
 all_empty cpus lane n k d lt = (empty_fits cpus lane n (get_or (empty_lists cpus lane n) k d) (Contains-get_or (empty_lists cpus lane n) k d lt)).1
 
+-- new keepers and the new keeper of the next lane are new keepers together
 pub AreNewKeepers-push : (table : TableId) (ks : List Keeper) (k : Keeper) → AreNewKeepers table ks → IsNewKeeper table (length ks) k →
     AreNewKeepers table (ks ++ k ∷ [])
 AreNewKeepers-push table ks k all new x d lt =

@@ -27,12 +27,14 @@ module _ {A : Type 0} where
       (⊎_elim (λ p. xu x p) (λ q. yu x q) has, ⊎_elim (λ p. xv x p) (λ q. yv x q) has)
 
 module _ (v w v' w' : View) (is_v : v' ≡ both v (telling w 0 [])) (is_w : w' ≡ both w (telling v 0 [])) where
+  -- after two seats told each other all, both know of each word the greater of what each knew
   pub shared_words : (u : ℕ) → let most = max (reach u v) (reach u w) in (reach u v' ≡ most) × (reach u w' ≡ most)
   shared_words u =
       let a = reach_both u v (telling w 0 []) in
       let b = reach_both u w (telling v 0 []) in
       (ap (reach u) is_v ∙ a, ap (reach u) is_w ∙ (b ∙ (let c : max (reach u w) (reach u v) ≡ max (reach u v) (reach u w) = omega arith in c)))
 
+  -- after two seats told each other all, both know each entry that either knew
   pub shared_entries : All (λ e. Contains (known_entries v') e × Contains (known_entries w') e) (known_entries v ++ known_entries w)
   shared_entries =
       let V = sym (ap known_entries is_v) in
@@ -43,6 +45,7 @@ module _ (v w v' w' : View) (is_v : v' ≡ both v (telling w 0 [])) (is_w : w' �
       (λ x h. subst (λ (l : List Entry). Contains l x) W (among_told w.known w.entries (known_entries v) [] x h))
       (λ x h. subst (λ (l : List Entry). Contains l x) W (among_own w.known w.entries (known_entries v) [] x h))
 
+  -- after two seats told each other all, both know each beginning of a lane's list that either knew
   pub shared_lists : All (λ k. Contains (known_lists v') k × Contains (known_lists w') k) (known_lists v ++ known_lists w)
   shared_lists =
       let V = sym (ap known_lists is_v) in

@@ -9,15 +9,19 @@ use lib.ListN.{get_elem?}
 use Rattle.nt_mark.specs.Rule.{sum_below}
 
 module _ {A : Type 0} where
+  -- the empty list contains nothing
   pub in_none : (x : A) → Contains [] x → ⊥
   in_none x h = let lt = h.1 in omega arith
 
+  -- a list contains its first element
   pub in_first : (x : A) (xs : List A) → Contains (x ∷ xs) x
   in_first x xs = (0, omega arith, refl)
 
+  -- an element of the rest of a list is in the list
   pub in_rest : (y : A) (xs : List A) (x : A) → Contains xs x → Contains (y ∷ xs) x
   in_rest y xs x h = let lt = h.1 in (suc h.0, omega arith, h.2)
 
+  -- an element of a list is its first element or is in the rest
   pub first_or_rest : (y : A) (xs : List A) (x : A) → Contains (y ∷ xs) x → (x ≡ y) ⊎ Contains xs x
   first_or_rest y xs x h = cases h.0 h.1 h.2
     where
@@ -25,6 +29,7 @@ module _ {A : Type 0} where
       cases zero lt e = inl (sym e)
       cases (suc k) lt e = inr (k, omega arith, e)
 
+  -- an element of a list of one element is that element
   pub only : (y x : A) → Contains (y ∷ []) x → x ≡ y
   only y x h = ⊎_elim (λ e. e) (λ r. absurd (in_none x r)) (first_or_rest y [] x h)
 
@@ -38,6 +43,7 @@ module _ {A : Type 0} where
   pub sum_same : (f : A → ℕ) (xs : List A) (i : ℕ) (v w : A) → get_elem? xs i ≡ some v → f w ≡ f v → sum_by f (set xs i w) ≡ sum_by f xs
   sum_same f xs i v w e s = let h = sum_changed f xs i v w e in omega arith
 
+  -- if f is at most k times g on each element, the sum of f is at most k times the sum of g
   pub sum_bounded : (f g : A → ℕ) (k : ℕ) (xs : List A) → ((j : ℕ) (v : A) → get_elem? xs j ≡ some v → f v ≤ k * g v) → sum_by f xs ≤ k * sum_by g xs
   sum_bounded f g k [] h = zero-le
   sum_bounded f g k (x ∷ xs) h =
@@ -47,16 +53,19 @@ module _ {A : Type 0} where
       let d = ap (λ (n : ℕ). k * n) (sum_by-cons g x xs) in
       omega arith
 
+  -- the sum of one over the elements of a list is its length
   pub sum_ones : (xs : List A) → sum_by (λ _. 1) xs ≡ length xs
   sum_ones [] = refl
   sum_ones (x ∷ xs) = let h = sum_ones xs in let c = sum_by-cons (λ (_ : A). 1) x xs in omega arith
 
+  -- the value of an element in a list is at most the sum over the list
   pub sum_has : (f : A → ℕ) (xs : List A) (x : A) → Contains xs x → f x ≤ sum_by f xs
   sum_has f [] x h = absurd (in_none x h)
   sum_has f (y ∷ ys) x h =
       let c = sum_by-cons f y ys in
       ⊎_elim (λ e. let a : f x ≡ f y = ap f e in omega arith) (λ r. let a = sum_has f ys x r in omega arith) (first_or_rest y ys x h)
 
+  -- the value of the element at a place is at most the sum over the list
   pub sum_one : (f : A → ℕ) (xs : List A) (i : ℕ) (v : A) → get_elem? xs i ≡ some v → f v ≤ sum_by f xs
   sum_one f [] i v e = absurd (some-ne-none v (sym e))
   sum_one f (x ∷ xs) zero v e = let a : f x ≡ f v = ap f (some-injective x v e) in let c = sum_by-cons f x xs in omega arith
@@ -91,16 +100,19 @@ module _ {A : Type 0} where
       let c = sum_by-cons f x xs in
       omega arith
 
+  -- an element at a place of a list is at that place of the list with another joined behind
   pub get_front : (xs ys : List A) (k : ℕ) (x : A) → get_elem? xs k ≡ some x → get_elem? (xs ++ ys) k ≡ some x
   get_front [] ys k x e = absurd (some-ne-none x (sym e))
   get_front (y ∷ xs) ys zero x e = e
   get_front (y ∷ xs) ys (suc k) x e = get_front xs ys k x e
 
+  -- a place where a list has an element is below its length
   pub get_below : (xs : List A) (k : ℕ) (x : A) → get_elem? xs k ≡ some x → k < length xs
   get_below [] k x e = absurd (some-ne-none x (sym e))
   get_below (y ∷ xs) zero x e = omega arith
   get_below (y ∷ xs) (suc k) x e = let h = get_below xs k x e in omega arith
 
+  -- a place that has an element has the new one after it is set
   pub there : (xs : List A) (i : ℕ) (a b : A) → get_elem? xs i ≡ some a → get_elem? (set xs i b) i ≡ some b
   there [] i a b e = absurd (some-ne-none a (sym e))
   there (x ∷ xs) zero a b e = refl
@@ -112,10 +124,12 @@ module _ {A : Type 0} where
   set_here (x ∷ xs) zero a e = ap (λ (y : A). y ∷ xs) (sym (some-injective x a e))
   set_here (x ∷ xs) (suc i) a e = ap (λ (ys : List A). x ∷ ys) (set_here xs i a e)
 
+  -- a list whose length is at most zero is empty
   pub none_left : (xs : List A) → length xs ≤ 0 → xs ≡ []
   none_left [] h = refl
   none_left (x ∷ xs) h = absurd (omega arith)
 
+-- the sum of one over the numbers below n is n
 pub ones_below : (n : ℕ) → sum_below (λ _. 1) n ≡ n
 ones_below zero = refl
 ones_below (suc n) = let h = ones_below n in omega arith
@@ -130,22 +144,27 @@ rises_at ws i n inside le j = dite (ℕ_discrete j i)
 abbrev pub at_one : ℕ → ℕ → ℕ
 at_one x y = cond (eqb y x) 1 0
 
+-- the function that is one at x is one at x
 pub at_one_here : (x : ℕ) → at_one x x ≡ 1
 at_one_here x = rw (eq-eqb x x refl) refl
 
+-- the function that is one at x is zero at each other number
 pub at_one_else : (x y : ℕ) → y ≢ x → at_one x y ≡ 0
 at_one_else x y ne = rw (ne_eqb y x ne) refl
 
+-- the function that is one at x adds up to zero below a number that is at most x
 pub none_below : (x n : ℕ) → n ≤ x → sum_below (at_one x) n ≡ 0
 none_below x zero h = refl
 none_below x (suc n) h = let a = none_below x n (omega arith) in let b = at_one_else x n (λ e. omega arith) in omega arith
 
+-- the function that is one at x adds up to at most one below each number
 pub one_below : (x n : ℕ) → sum_below (at_one x) n ≤ 1
 one_below x zero = zero-le
 one_below x (suc n) = dite (ℕ_discrete n x)
     (λ e. let a = none_below x n (omega arith) in let b : at_one x n ≡ 1 = ap (at_one x) e ∙ at_one_here x in omega arith)
     (λ ne. let a = one_below x n in let b = at_one_else x n ne in omega arith)
 
+-- the function that is one at x adds up to one below each number above x
 pub one_at : (x n : ℕ) → x < n → sum_below (at_one x) n ≡ 1
 one_at x zero h = absurd (omega arith)
 one_at x (suc n) h = dite (ℕ_discrete n x)

@@ -32,12 +32,14 @@ use Rattle.nt_plain.proofs.Writes.{marks_after, words_after}
 abbrev pub TellsOf : PlainState → Stand → What → List ℕ → Type 0
 TellsOf f st w values = values ≡ told_values f st w
 
+-- the value told of a class is raised by the event's requests over what its lanes told
 told_value : (f : PlainState) (st : Stand) (w : What) (values : List ℕ) (c : ℕ) → TellsOf f st w values → c < 16 → value_at values c
     ≡ raised (asks_in f.script st w f.lanes st.cpu c) f.next (told_over (told_in f.script f.told) (what_lanes f.script st w f.lanes) st.cpu c)
 told_value f st w values c e h =
     ap (λ (v : List ℕ). value_at v c) e ∙ get_or-table 16 c
     (λ k. raised (asks_in f.script st w f.lanes st.cpu k) f.next (told_over (told_in f.script f.told) (what_lanes f.script st w f.lanes) st.cpu k)) 0 h
 
+-- an act that gives the event of its job, its due time and the told values answers as contracts demand
 pub is_acted : (f : PlainState) (st : Stand) (job : Job) (w : What) (a : Acted) → job_event f.script st f.lanes job ≡ Some w → KindsFit f.script f.lanes →
     a.number ≡ f.next → a.event ≡ acted_event st f.lanes w → a.due ≡ due_of w f.lanes.timers.now → IfSome a.due (λ due. due < 2 ^ 51) →
     TellsOf f st w a.told.value → IsActed f.script (found_of f) st job a
@@ -52,6 +54,7 @@ is_acted f st job w a gives kinds number event due due_fits told =
       told = λ c h. rw (same, number) (told_value f st w a.told.value c told h);
     }
 
+-- marks set for no list leave no list
 no_lists : (n : ℕ) (asks : List Ask) → with_marks n asks None ≡ None
 no_lists n [] = refl
 no_lists n (a ∷ asks) = no_lists n asks
@@ -66,6 +69,7 @@ raised_here : (b : Bool) (n old new : ℕ) → b ≡ true → new ≡ raised b n
 raised_here true n old new h e = omega (arith, e)
 raised_here false n old new h e = cc
 
+-- the word of a processor and class is raised after an event exactly if the event requests it
 word_after : (f : PlainState) (st : Stand) (w : What) (q : CpuNo) (c : ℕ) → IsKept f → All (AskFits f.script) (what_asks f.script st w f.lanes) →
     q.0 < f.script.cpus → c < 16 → value_in (made st w f).asked q c ≡ raised (asks_in f.script st w f.lanes q c) f.next (value_in f.asked q c)
 word_after f st w q c kept named h k =
@@ -74,6 +78,7 @@ word_after f st w q c kept named h k =
     (all_within f.script (what_asks f.script st w f.lanes) named) k (omega (arith, low))
     ∙ as_raised (asks_in f.script st w f.lanes q c) f.next (value_in f.asked q c)
 
+-- an event of a kept floor whose lanes and requests fit moves the floor's view as it should
 moved : (f : PlainState) (st : Stand) (w : What) → IsKept f → 1 ≤ f.limit - f.next → All (LaneFits f.script) (what_lanes f.script st w f.lanes) →
     All (AskFits f.script) (what_asks f.script st w f.lanes) →
     IsMoved f.script f.next (acted_event st f.lanes w) st (found_of f) (view_of f) (view_of (made st w f))
@@ -100,12 +105,14 @@ moved f st w kept room lanes_named asks_named =
           (all_within f.script (what_asks f.script st w f.lanes) asks_named) k.0 k.1;
     }
 
+-- a kept floor that makes an event whose lanes and requests fit the script moves its view as contracts demand
 pub is_moved : (f g : PlainState) (st : Stand) (w : What) (n : ℕ) (e : Event) → IsKept f → 1 ≤ f.limit - f.next →
     All (LaneFits f.script) (what_lanes f.script st w f.lanes) → All (AskFits f.script) (what_asks f.script st w f.lanes) → n ≡ f.next → e
     ≡ acted_event st f.lanes w → g ≡ made st w f → IsMoved f.script n e st (found_of f) (view_of f) (view_of g)
 is_moved f g st w n e kept room lanes_named asks_named number event state =
     rw (number, event, state) (moved f st w kept room lanes_named asks_named)
 
+-- a told value raised together with a greater word stays at most the word and the next number
 raised_below : (b : Bool) (n old value told word : ℕ) → old ≤ value → value ≤ n → told ≡ raised b n old → word ≡ raised b n value → (told ≤ word) ×
     (told ≤ n + 1)
 raised_below true n old value told word h k e f = (omega (arith, e, f), omega (arith, e))
@@ -123,6 +130,7 @@ is_told f g st w values kept cpu asks_named state told c h =
     (value_in f.asked st.cpu c) (value_at values c) (value_in (made st w f).asked st.cpu c) over (kept.asked st.cpu c low h)
     (told_value f st w values c told h) (word_after f st w st.cpu c kept asks_named low h))
 
+-- a floor that makes no event leaves its view unmoved
 pub unmoved : (f : PlainState) → IsUnmoved (view_of f) (view_of f)
 unmoved f =
     record {

@@ -31,20 +31,24 @@ use Rattle.nt_states.proofs.TimersLeft.{sized_after, timers_left}
 
 -- ---- the parts are those of the whole
 
+-- the objects and queues among all states that are kept are the ones that the DPC part holds
 pub dpcs_are : (a : Inside) → IsKept a → dpcs_of (states_in a) ≡ a.dpcs
 dpcs_are a h =
     ap (λ (s : Script). record { script = s; objects = a.dpcs.objects; queues = a.dpcs.queues }) (sym h.dpcs)
 
+-- the threads among all states that are kept are the ones that the thread part holds
 pub threads_are : (a : Inside) → IsKept a → threads_of (states_in a) ≡ a.threads
 threads_are a h = ap (λ (s : Script). record { script = s; facts = a.threads.facts }) (sym h.threads)
 
 -- ---- the event may be made of each part
 
+-- an event that may be made in all states may be made in the objects and queues
 pub may_leave_dpcs : (a : Inside) (x : AllStates) (st : Stand) (w : What) → IsKept a → states_in a ≡ x → MayMake x st w → dpcs.MayLeave a.dpcs st.cpu w
 may_leave_dpcs a x st w kept e g =
     let h : MayMake (states_in a) st w = subst (λ (z : AllStates). MayMake z st w) (sym e) g in
     subst (λ (d : DpcLanes). dpcs.MayLeave d st.cpu w) (dpcs_are a kept) (may_dpcs (states_in a) st w (knows (states_in a) st w h))
 
+-- an event that may be made in all states may be made in the threads
 pub may_leave_threads : (a : Inside) (x : AllStates) (st : Stand) (e : Event) → IsKept a → states_in a ≡ x → MayMake x st e.what → e
     ≡ acted_event st x.lanes e.what → MayLeave a.threads st e
 may_leave_threads a x st e kept same g made =
@@ -52,6 +56,7 @@ may_leave_threads a x st e kept same g made =
     let k : MayLeave (threads_of (states_in a)) st e = subst (λ (z : AllStates). MayLeave (threads_of z) st e) (sym same) h in
     subst (λ (t : ThreadLanes). MayLeave t st e) (threads_are a kept) k
 
+-- an event that may be made in all states may be made in the timers
 pub may_leave_timers : (a : Inside) (x : AllStates) (st : Stand) (e : Event) → IsKept a → states_in a ≡ x → MayMake x st e.what → e
     ≡ acted_event st x.lanes e.what → MayTime a.script.now a.timers e e.what
 may_leave_timers a x st e kept same g made =
@@ -60,6 +65,7 @@ may_leave_timers a x st e kept same g made =
     (may_timers x st sound e.what g) in
     subst (λ (z : AllStates). MayTime z.script z.lanes.timers e e.what) (sym same) h
 
+-- an event that may be made in all states may make its move of the spin locks
 pub may_move_locks : (a : Inside) (x : AllStates) (st : Stand) (w : What) → IsKept a → states_in a ≡ x → MayMake x st w →
     MayMove a.script.now a.locks st.cpu w
 may_move_locks a x st w kept same g =
@@ -82,6 +88,7 @@ module _ (a b : Inside) (x : AllStates) (n : ℕ) (st : Stand) (e : Event) (kept
   times =
       left.timers ∙ sym (timers_left a.script.now st e n a.timers kept.sound.timers (may_leave_timers a x st e kept same g made))
 
+  -- the states stay sound and of one script after an event that may be made
   pub kept_after : IsKept b
   kept_after = record {
     sound = record {

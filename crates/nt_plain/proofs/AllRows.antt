@@ -40,6 +40,7 @@ before_stands from end i row m marked h s =
     let low : m.row + 1 ≤ row_at marked i = least (m.row + 1) end i marked h.1 (omega (arith, s.bound)) in
     omega (arith, low, s.here)
 
+-- a row that goes in after the first marked row is above it
 before_goes : (from end i row : ℕ) (m : MarkedRow) (marked : List MarkedRow) → AreRising from end (m ∷ marked) → GoesAt row (m ∷ marked) (suc i) →
     m.row < row
 before_goes from end zero row m marked h g = g.before 0 (omega arith)
@@ -52,6 +53,7 @@ before_goes from end (suc i) row m marked h g =
 stands_behind : (i row : ℕ) (m : MarkedRow) (marked : List MarkedRow) → StandsAt row (m ∷ marked) (suc i) → StandsAt row marked i
 stands_behind i row m marked s = record { bound = omega (arith, s.bound); here = s.here }
 
+-- a row that goes in after the first marked row goes in at one place less among the rest
 goes_behind : (i row : ℕ) (m : MarkedRow) (marked : List MarkedRow) → GoesAt row (m ∷ marked) (suc i) → GoesAt row marked i
 goes_behind i row m marked g = record {
   bound = omega (arith, g.bound);
@@ -170,6 +172,7 @@ others_with row classes k (m ∷ marked) apart =
 
 -- ---- all rows
 
+-- the list of all rows has as many entries as there are rows
 size : (count : ℕ) (marked : List MarkedRow) → length (all_rows count marked) ≡ count
 size count marked = length-table_from 0 count (λ row. classes_of marked row)
 
@@ -180,6 +183,7 @@ row_below count marked row all e lt =
     let same : length (all_rows count marked) ≡ length all = ap (λ (l : List ℕ). length l) e in
     omega (arith, long, same, lt)
 
+-- each row of the full list has the classes that its marked entry tells, or none
 pub row_read : (count : ℕ) (marked : List MarkedRow) (row : ℕ) (all : List ℕ) → all_rows count marked ≡ all → row < length all →
     classes_of marked row ≡ get_or all row 0
 row_read count marked row all e lt =

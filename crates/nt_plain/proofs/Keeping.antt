@@ -24,11 +24,13 @@ use Rattle.nt_plain.proofs.ToldClasses.{tells_of_others}
 use Rattle.nt_plain.proofs.Within.{all_within}
 use Rattle.nt_plain.proofs.Writes.{words_after}
 
+-- raising words by requests leaves as many words
 length-raised_words : (to : ℕ) (asks : List Ask) (xs : List ℕ) → length (raised_words to asks xs) ≡ length xs
 length-raised_words to [] xs = refl
 length-raised_words to (a ∷ asks) xs =
     length-raised_words to asks (raised_word to a.cpu a.class xs) ∙ length-set xs (word_place a.cpu a.class) (max (value_in xs a.cpu a.class) to)
 
+-- marking all processors' requests leaves as many marks
 length-marked_all : (cpus n : ℕ) (asks : List Ask) (marks : List ℕ) → length (marked_all cpus n asks marks) ≡ length marks
 length-marked_all cpus n [] marks = refl
 length-marked_all cpus n (a ∷ asks) marks =
@@ -53,6 +55,7 @@ told_no_more : (b : Bool) (n old new : ℕ) → old ≡ 0 → b ≡ false → ne
 told_no_more true n old new h f e = cc
 told_no_more false n old new h f e = omega (arith, e, h)
 
+-- a floor with a number left stays kept after a fitting event in which the time advances by less than 2^32
 pub kept_made : (f : PlainState) (st : Stand) (w : What) → IsKept f → f.next < f.limit → All (LaneFits f.script) (what_lanes f.script st w f.lanes) →
     All (AskFits f.script) (what_asks f.script st w f.lanes) → (made st w f).lanes.timers.now ≤ f.lanes.timers.now + (2 ^ 32 - 1) → IsKept (made st w f)
 kept_made f st w kept room lanes_named asks_named time =
@@ -116,6 +119,7 @@ made_is f st e lanes asks s touched asked words marks told x planned event scrip
       told = told_path i;
     }
 
+-- words, marks, told values and states written one by one for a planned event leave the floor kept
 pub kept_left : (f : PlainState) (st : Stand) (e : Event) (lanes : List Lane) (asks : List Ask) (s : Script) (touched : List Lane) (asked : List Asked)
     (words marks told : List ℕ) (x : AllStates) → IsKept f → IsPlanned f st e.what lanes asks → e ≡ acted_event st f.lanes e.what → s ≡ f.script → touched
     ≡ lanes → as_asks asked ≡ asks → words ≡ raised_words (f.next + 1) (as_asks asked) f.asked → marks ≡ marked_all s.cpus f.next (as_asks asked) f.marks →

@@ -24,10 +24,12 @@ use Rattle.nt_plain.specs.Locks.{AreLocks, MayMove, locks_left}
 
 -- ---- a lock keeps its flags
 
+-- the choice of two locks with the same number of spinner flags has that number of flags
 either : (b : Bool) (x y : LockState) (n : ℕ) → length x.spinners ≡ n → length y.spinners ≡ n → length (if b then x else y).spinners ≡ n
 either true x y n h k = h
 either false x y n h k = k
 
+-- a move of a lock leaves a spinner flag for each processor
 flags_after : (s : Script) (k : LockNo) (p : CpuNo) (m : LockMove) (x : LockState) → length x.spinners ≡ s.cpus →
     length (lock_moved s k p m x).spinners ≡ s.cpus
 flags_after s k p (Gets j) x h = either (j.0 == k.0) _ x s.cpus (length-table_from 0 s.cpus _) h
@@ -35,6 +37,7 @@ flags_after s k p (Spins j) x h = either (j.0 == k.0) _ x s.cpus (length-table_f
 flags_after s k p (Frees j) x h = either (j.0 == k.0) _ x s.cpus h h
 flags_after s k p NoMove x h = h
 
+-- an event leaves one state for each lock of the script, with a flag for each processor
 pub still_locks : (s : Script) (p : CpuNo) (w : What) (xs : List LockState) → AreLocks s xs → AreLocks s (locks_left s p w xs)
 still_locks s p w xs are =
     let size : length (locks_left s p w xs) ≡ s.locks = length-table_from 0 s.locks _ in
@@ -47,12 +50,14 @@ still_locks s p w xs are =
 
 -- ---- the lock that moves is the script's
 
+-- whether a move of a lock names a lock of the script
 move_fits : Script → LockMove → Bool
 move_fits s (Gets k) = has_lock s k
 move_fits s (Spins k) = has_lock s k
 move_fits s (Frees k) = has_lock s k
 move_fits s NoMove = true
 
+-- the lock move of a call whose command fits the script names a lock of the script
 call_move_fits : (s : Script) (c : Command) (y : Reply) → command_fits s c ≡ true → move_fits s (call_move c y) ≡ true
 unfolding move_fits
 call_move_fits s (cmd.Acquire k) Done h = h
@@ -62,33 +67,39 @@ call_move_fits s (cmd.Acquire k) y h = refl
 call_move_fits s (cmd.Unlock k) y h = refl
 call_move_fits s c y h = refl
 
+-- the lock move of an event that fits the script names a lock of the script
 lock_move_fits : (s : Script) (w : What) → what_fits s w ≡ true → move_fits s (lock_move w) ≡ true
 unfolding move_fits
 lock_move_fits s (what.Call f c y) h = call_move_fits s c y h
 lock_move_fits s (what.Free f k) h = h
 lock_move_fits s w h = refl
 
+-- a move of a lock fits exactly if the lock is one of the script's
 its_lock : (s : Script) (k : LockNo) (by : Move) → move_fits s (move_of k by) ≡ has_lock s k
 unfolding move_fits
 its_lock s k move.Gets = refl
 its_lock s k move.Spins = refl
 its_lock s k move.Frees = refl
 
+-- the lock that an event of the script gets, spins on or frees is one of the script's
 pub named_lock : (s : Script) (w : What) (k : LockNo) (by : Move) → IsTrue (what_fits s w) → move_of k by ≡ lock_move w → k.0 < s.locks
 named_lock s w k by h e =
     ltb-true k.0 s.locks (sym (its_lock s k by) ∙ (ap (move_fits s) e ∙ lock_move_fits s w h))
 
 -- ---- what is left
 
+-- an event that moves no lock leaves all spin locks as they were
 pub none_moved : (s : Script) (p : CpuNo) (w : What) (xs : List LockState) → AreLocks s xs → NoMove ≡ lock_move w → xs ≡ locks_left s p w xs
 none_moved s p w xs are e =
     rw (← e) (sym (table-self start_lock s.locks xs (λ k. get_or xs k start_lock) are.count (λ i l. refl)))
 
+-- a move of one lock leaves the other locks as they were
 elsewhere : (s : Script) (i : ℕ) (k : LockNo) (by : Move) (p : CpuNo) (x : LockState) → (k.0 ≡ i → ⊥) → lock_moved s (lock i) p (move_of k by) x ≡ x
 elsewhere s i k move.Gets p x apart = rw (ne_eqb k.0 i apart) refl
 elsewhere s i k move.Spins p x apart = rw (ne_eqb k.0 i apart) refl
 elsewhere s i k move.Frees p x apart = rw (ne_eqb k.0 i apart) refl
 
+-- writing the moved state of the one lock that an event moves leaves all spin locks as the event does
 pub one_moved : (s : Script) (p : CpuNo) (w : What) (xs : List LockState) (k : LockNo) (by : Move) (new : LockState) → AreLocks s xs →
     k.0 < s.locks → move_of k by ≡ lock_move w → new ≡ lock_moved s k p (move_of k by) (get_or xs k.0 start_lock) →
     set xs k.0 new ≡ locks_left s p w xs

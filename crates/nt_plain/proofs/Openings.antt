@@ -6,6 +6,7 @@ use Rattle.nt_event.specs.Lanes.{Lanes}
 use Rattle.nt_floor.specs.Views.{IsOpening}
 use Rattle.nt_plain.specs.States.{IsFresh, PlainState, view_of}
 
+-- contracts see a fresh floor as one on which nothing has happened
 pub fresh_opening : (s : Script) (turns : ℕ) (f : PlainState) → IsFresh s turns f → IsOpening s (s.cpus * turns) (view_of f)
 fresh_opening s turns f h = record {
   cpus = ap (λ (x : Script). x.cpus) h.script;

@@ -13,6 +13,7 @@ use Rattle.nt_plain.specs.Classes.{is_work_class, raised_class}
 abbrev raised_if : Bool → ℕ → ℕ → ℕ
 raised_if b to old = if b then max old to else old
 
+-- raising the values of one class raises that class's value to the told one and leaves the others
 read : (c : ℕ) (told old new : List ℕ) (k : ℕ) → k < 16 → new ≡ raised_class c told old → value_at new k
     ≡ raised_if (c == k) (get_or told k 0) (value_at old k)
 read c told old new k h e = raised_value old new c (get_or told c 0) k e h ∙ here (c == k) refl
@@ -21,15 +22,18 @@ read c told old new k h e = raised_value old new c (get_or told c 0) k e h ∙ h
     here true f = let i : c ≡ k = grind (arith, nat_tests) in ap (λ (j : ℕ). max (value_at old k) (get_or told j 0)) i
     here false f = omega arith
 
+-- raising a value twice to the same number is raising it once, if either test holds
 twice : (a b : Bool) (to old : ℕ) → raised_if b to (raised_if a to old) ≡ raised_if (a || b) to old
 twice true true to old = omega arith
 twice true false to old = refl
 twice false b to old = refl
 
+-- raising a value by a told one that is zero where the test fails takes the greater of the two
 whole : (b : Bool) (to old : ℕ) → (b ≡ false → to ≡ 0) → raised_if b to old ≡ max old to
 whole true to old h = refl
 whole false to old h = omega (arith, h refl)
 
+-- raising the threaded, APC, dispatch and clock classes raises every class, if the others are told 0
 pub raised_row : (told v0 v1 v2 v3 v4 : List ℕ) → v1 ≡ raised_class threaded_class told v0 → v2 ≡ raised_class apc_class told v1 → v3
     ≡ raised_class dispatch_class told v2 → v4 ≡ raised_class clock_class told v3 → ((c : ℕ) → c < 16 → is_work_class c ≡ false → get_or told c 0 ≡ 0) → v4
     ≡ table 16 (λ c. max (value_at v0 c) (get_or told c 0))

@@ -16,11 +16,13 @@ use Rattle.nt_states.specs.LaneLists.{as_ask, as_asks}
 use Rattle.nt_plain.specs.Made.{tell_lane, tell_lanes}
 use Rattle.nt_plain.specs.Places.{row_of, row_value, told_place}
 
+-- telling of the requests for one lane leaves the number of told values
 pub length-tell_lane : (s : Script) (to : ℕ) (x : Lane) (asks : List Ask) (told : List ℕ) → length (tell_lane s to x asks told) ≡ length told
 length-tell_lane s to x [] told = refl
 length-tell_lane s to x (a ∷ asks) told =
     length-tell_lane s to x asks (set told (told_place s x a.cpu a.class) to) ∙ length-set told (told_place s x a.cpu a.class) to
 
+-- dropping the entries before a place leaves the entry there and the rest after it
 rest_of : (lanes : List Lane) (i : ℕ) (d : Lane) → i < length lanes → drop i lanes ≡ get_or lanes i d ∷ drop (i + 1) lanes
 rest_of lanes i d h = rw add-one (drop-cons lanes i d h)
 
@@ -40,10 +42,12 @@ over_next s told lanes p i d number row values new c all h at place e k before =
     (rest_of lanes i d h) at before in
     omega (arith, read, old)
 
+-- telling of the lane at a place and then of the lanes after it is telling of the lanes from the place on
 pub tell_next : (s : Script) (to : ℕ) (lanes : List Lane) (asks : List Ask) (i : ℕ) (d : Lane) (old new all : List ℕ) → i < length lanes → new
     ≡ tell_lane s to (get_or lanes i d) asks old → tell_lanes s to (drop i lanes) asks old ≡ all → tell_lanes s to (drop (i + 1) lanes) asks new ≡ all
 tell_next s to lanes asks i d old new all h e before = rw e (rw (rest_of lanes i d h) at before)
 
+-- when no lane is left, the greatest told value is the one found so far
 pub nothing_left : (f : Told) (lanes : List Lane) (p : CpuNo) (i c v all : ℕ) → length lanes ≤ i → max v (told_over f (drop i lanes) p c) ≡ all → v ≡ all
 nothing_left f lanes p i c v all h e =
     let k : max v 0 ≡ all = rw (drop_all i lanes h) at e in omega (arith, k)
@@ -62,11 +66,13 @@ own_next asks i d p c to old new all h e before =
     go true false f k = omega (arith, f, k)
     go false b f k = let n : new ≡ old = omega (arith, f) in rw n k
 
+-- when no request is left, the value of the class is the one found so far
 pub none_asked : (asks : List Asked) (i : ℕ) (p : CpuNo) (c to v all : ℕ) → length asks ≤ i →
     max v (if list_any (is_ask p c) (as_asks (drop i asks)) then to else 0) ≡ all → v ≡ all
 none_asked asks i p c to v all h e =
     let k : max v 0 ≡ all = rw (drop_all i asks h) at e in omega (arith, k)
 
+-- telling of the lane at a place keeps the told values at their given length
 pub tell_kept : (s : Script) (to : ℕ) (lanes : List Lane) (asks : List Ask) (i : ℕ) (d : Lane) (old new : List ℕ) (n : ℕ) → new
     ≡ tell_lane s to (get_or lanes i d) asks old → length old ≡ n → length new ≡ n
 tell_kept s to lanes asks i d old new n e l = rw e (length-tell_lane s to (get_or lanes i d) asks old ∙ l)

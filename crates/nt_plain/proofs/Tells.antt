@@ -22,6 +22,7 @@ use Rattle.nt_plain.proofs.Writes.{AskWithin, is_ask_false, written}
 
 -- ---- lanes and their numbers
 
+-- the number of a lane that fits the script is below the count of its lanes
 pub number_below : (s : Script) (x : Lane) → lane_fits s x ≡ true → lane_number s x < lane_count s
 number_below s (ObjectLane d) h = let k = ltb-true d.0 (length s.dpcs) h in omega arith
 number_below s (QueueLane p) h = let k = ltb-true p.0 s.cpus h in omega arith
@@ -29,6 +30,7 @@ number_below s (ThreadsLane p) h = let k = ltb-true p.0 s.cpus h in omega arith
 number_below s TimersLane h = omega arith
 number_below s (LockLane k) h = let e = ltb-true k.0 s.locks h in omega arith
 
+-- lanes that test equal have the same number
 one_number : (s : Script) (y x : Lane) → same_lane y x ≡ true → lane_number s y ≡ lane_number s x
 one_number s (ObjectLane d) (ObjectLane e) h = sym (eqb-true e.0 d.0 h)
 one_number s (QueueLane p) (QueueLane q) h = ap (λ (n : ℕ). length s.dpcs + n) (sym (eqb-true q.0 p.0 h))
@@ -86,6 +88,7 @@ two_numbers s (LockLane j) (ThreadsLane p) f g h same = let k = ltb-true p.0 s.c
 two_numbers s TimersLane (LockLane j) f g h same = omega arith
 two_numbers s (LockLane j) TimersLane f g h same = omega arith
 
+-- a lane equal to one that fits the script fits too
 same_fits : (s : Script) (y x : Lane) → same_lane y x ≡ true → lane_fits s x ≡ true → lane_fits s y ≡ true
 same_fits s (ObjectLane d) (ObjectLane e) h g = rw (← eqb-true e.0 d.0 h) g
 same_fits s (QueueLane p) (QueueLane q) h g = rw (← eqb-true q.0 p.0 h) g
@@ -113,6 +116,7 @@ same_fits s (LockLane k) (ThreadsLane p) h g = absurd (cc)
 same_fits s TimersLane (LockLane k) h g = absurd (cc)
 same_fits s (LockLane k) TimersLane h g = absurd (cc)
 
+-- a lane that does not fit the script is not equal to one that fits
 apart : (s : Script) (y x : Lane) → lane_fits s x ≡ true → lane_fits s y ≡ false → same_lane y x ≡ false
 apart s y x fits out = go (same_lane y x) refl
   where
@@ -128,6 +132,7 @@ pub record IsRead (s : Script) (y : Lane) (q : CpuNo) (d : ℕ) : Type 0 where
   pub cpu : q.0 < s.cpus
   pub class : d < 16
 
+-- a request told to a lane sets that lane's value of its processor and class, and no other value
 told_one : (s : Script) (to : ℕ) (x : Lane) (a : Ask) (told : List ℕ) (y : Lane) (q : CpuNo) (d : ℕ) → length told ≡ lane_count s * s.cpus * 16 → lane_fits s x
     ≡ true → AskWithin s.cpus a → IsRead s y q d → row_value s (set told (told_place s x a.cpu a.class) to) y q d
     ≡ (if same_lane y x && is_ask q d a then to else row_value s told y q d)
@@ -152,12 +157,14 @@ told_one s to x a told y q d len fits within read =
         go (inl k) number cpu class = two_numbers s y x read.lane fits k number
         go (inr k) number cpu class = is_ask_false q d a k cpu class
 
+-- a value set by a later request or else by this one is set if either request sets it
 and_more : (b x more : Bool) (to old : ℕ) → (if b && more then to else (if b && x then to else old)) ≡ (if b && (x || more) then to else old)
 and_more false x more to old = refl
 and_more true true true to old = refl
 and_more true true false to old = refl
 and_more true false more to old = refl
 
+-- a value set for a later lane or else for this one is set if it is for either, where asked
 or_more : (b x more : Bool) (to old : ℕ) → (if more && x then to else (if b && x then to else old)) ≡ (if (b || more) && x then to else old)
 or_more true true true to old = refl
 or_more true true false to old = refl
@@ -167,6 +174,7 @@ or_more true false false to old = refl
 or_more false false true to old = refl
 or_more false false false to old = refl
 
+-- no request at all leaves the value as it was
 nothing : (b : Bool) (to old : ℕ) → old ≡ (if b && false then to else old)
 nothing true to old = refl
 nothing false to old = refl
@@ -198,6 +206,7 @@ rows_after s to (x ∷ lanes) asks told y q d len fits within read =
     (tell_lane_after s to x asks told y q d len (all_head (λ z. lane_fits s z ≡ true) x lanes fits) within read)
     ∙ or_more (same_lane y x) (list_any (is_ask q d) asks) (is_among y lanes) to (row_value s told y q d))
 
+-- telling of the requests for all touched lanes leaves the number of told values
 pub length-tell_lanes : (s : Script) (to : ℕ) (lanes : List Lane) (asks : List Ask) (told : List ℕ) → length (tell_lanes s to lanes asks told) ≡ length told
 length-tell_lanes s to [] asks told = refl
 length-tell_lanes s to (x ∷ lanes) asks told =

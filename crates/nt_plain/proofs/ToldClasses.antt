@@ -52,6 +52,7 @@ record IsOther (c : ℕ) : Type 0 where
   dispatch : (dispatch_class == c) ≡ false
   clock : (clock_class == c) ≡ false
 
+-- a class that is no work class is none of the four work classes
 is_other : (c : ℕ) → is_work_class c ≡ false → IsOther c
 is_other c h =
     let p = or_parts ((threaded_class == c || apc_class == c) || dispatch_class == c) (clock_class == c) h in
@@ -63,26 +64,32 @@ is_other c h =
 abbrev AskNone : List Ask → CpuNo → ℕ → Type 0
 AskNone asks p c = list_any (is_ask p c) asks ≡ false
 
+-- a request of another class put before requests that ask nothing of a class still asks nothing of it
 one : (q p : CpuNo) (k c : ℕ) (more : List Ask) → (k == c) ≡ false → AskNone more p c → AskNone (record { cpu = q; class = k } ∷ more) p c
 one q p k c more other rest = or_from (q.0 == p.0 && k == c) (list_any (is_ask p c) more) (and_right (q.0 == p.0) (k == c) other) rest
 
+-- a single conditional request of another class asks nothing of a class
 one_if : (b : Bool) (q p : CpuNo) (k c : ℕ) → (k == c) ≡ false → AskNone (ask_if b q k) p c
 one_if true q p k c other = one q p k c [] other refl
 one_if false q p k c other = refl
 
+-- a conditional request of another class joined to requests that ask nothing of a class asks nothing of it
 two_if : (b : Bool) (q p : CpuNo) (k c : ℕ) (more : List Ask) → (k == c) ≡ false → AskNone more p c → AskNone (ask_if b q k ++ more) p c
 two_if true q p k c more other rest = one q p k c more other rest
 two_if false q p k c more other rest = rest
 
+-- the requests of an inserted DPC ask nothing outside the four work classes
 by_part : (s : Script) (part : Part) (o : ObjectState) (by q : CpuNo) (x : QueueState) (p : CpuNo) (c : ℕ) → IsOther c → AskNone (dpc_asks s part o by q x) p c
 by_part s ThreadedPart o by q x p c h = one q p threaded_class c [] h.threaded refl
 by_part s OrdinaryPart o by q x p c h =
     one_if (insert_asks o.importance (q.0 == by.0) (nat_lt (depth_limit s) (depth_of x.pending + 1)) x.idle) q p dispatch_class c h.dispatch
 
+-- the requests of a queued DPC ask nothing outside the four work classes
 by_queue : (s : Script) (d : DpcNo) (by : CpuNo) (l : Lanes) (p : CpuNo) (c : ℕ) → IsOther c → AskNone (queue_asks s d by l) p c
 by_queue s d by l p c h =
     by_part s (part_of s d) (object_at l d) by (queue_for (object_at l d).target by) (queue_at l (queue_for (object_at l d).target by)) p c h
 
+-- the requests of an inserted APC ask nothing outside the four work classes
 by_apc : (s : Script) (a : ApcNo) (l : Lanes) (p : CpuNo) (c : ℕ) → IsOther c → AskNone (apc_asks s a l) p c
 by_apc s a l p c h =
     two_if (is_kernel_kind (kind_of s a)) (cpu_of s (owner_of s a)) p apc_class c
@@ -93,6 +100,7 @@ by_apc s a l p c h =
 abbrev TellNone : Lane → List Lane → List Ask → CpuNo → ℕ → Type 0
 TellNone x lanes asks p c = (is_among x lanes ≡ false) ⊎ AskNone asks p c
 
+-- a call, refused or not, tells a lane nothing of a class if its lanes and requests do not
 by_call : (refused : Bool) (x : Lane) (lanes : List Lane) (asks : List Ask) (p : CpuNo) (c : ℕ) → TellNone x lanes asks p c →
     TellNone x (if refused then [] else lanes) asks p c
 by_call true x lanes asks p c h = inl refl
@@ -104,6 +112,7 @@ by_call false x lanes asks p c h = h
 abbrev IsWork : Lane → Type 0
 IsWork x = (k : LockNo) → is_among x (LockLane k ∷ []) ≡ false
 
+-- case: a command tells a work lane of no class other than the four
 by_command : (s : Script) (st : Stand) (k : Command) (y : Reply) (l : Lanes) (x : Lane) (p : CpuNo) (c : ℕ) → IsWork x → IsOther c →
     TellNone x (command_lanes s st.cpu k y l) (command_asks s st k y l) p c
 by_command s st (cmd.Queue d) Yes l x p c work h = inr (by_queue s d st.cpu l p c h)
@@ -164,6 +173,7 @@ by_command s st (cmd.Acquire k) y l x p c work h = inl (work k)
 by_command s st (cmd.Unlock k) y l x p c work h = inl (work k)
 by_command s st (cmd.Note n) y l x p c work h = inl refl
 
+-- case: the end of a frame tells a lane of no class other than the four
 by_end : (st : Stand) (body : Option Body) (l : Lanes) (x : Lane) (p : CpuNo) (c : ℕ) → IsOther c →
     TellNone x (end_lanes st.cpu body) (end_asks st body l) p c
 by_end st (Some (on.Base t)) l x p c h =
@@ -178,6 +188,7 @@ by_end st (Some (on.Threaded d)) l x p c h = inl refl
 by_end st (Some (on.Rundown a)) l x p c h = inl refl
 by_end st None l x p c h = inl refl
 
+-- case: any event tells a work lane of no class other than the four
 by_event : (s : Script) (st : Stand) (w : What) (l : Lanes) (x : Lane) (p : CpuNo) (c : ℕ) → IsWork x → IsOther c →
     TellNone x (what_lanes s st w l) (what_asks s st w l) p c
 by_event s st (what.Call f k y) l x p c work h =
@@ -206,6 +217,7 @@ by_event s st what.Rest l x p c work h = inr refl
 
 -- ---- a lock's lane
 
+-- the requests of a released lock ask nothing of any class but the lock's
 spinners_none : (n : ℕ) (flags : List Bool) (p : CpuNo) (c : ℕ) → (lock_class == c) ≡ false → AskNone (spinner_asks n flags) p c
 spinners_none n [] p c h = refl
 spinners_none n (b ∷ flags) p c h =
@@ -305,6 +317,7 @@ module _ (j : LockNo) where
 
 -- ---- each lane
 
+-- an event that touches a lane asks for no class that the lane does not tell of
 each_event : (s : Script) (st : Stand) (w : What) (l : Lanes) (x : Lane) (p : CpuNo) (c : ℕ) → is_told_class x c ≡ false →
     TellNone x (what_lanes s st w l) (what_asks s st w l) p c
 each_event s st w l (ObjectLane d) p c h = by_event s st w l (ObjectLane d) p c (λ k. refl) (is_other c h)

@@ -11,6 +11,7 @@ use Rattle.nt_plain.specs.Places.{is_marked, value_in}
 use Rattle.nt_plain.specs.States.{PlainState, view_of}
 use Rattle.nt_plain.proofs.Writes.{AskWithin, mark_one, word_one}
 
+-- a kept floor with a number left draws its next number, and contracts see it drawn
 pub is_drawn : (f g : PlainState) (e : Event) (n : ℕ) → IsKept f → 1 ≤ f.limit - f.next → n ≡ f.next → g ≡ drawn f → IsDrawn n e (view_of f) (view_of g)
 is_drawn f g e n kept room number state =
     rw (number, state) (record {
@@ -25,6 +26,7 @@ is_drawn f g e n kept room number state =
       same = record { cpus = refl; alone = refl; states = refl; told = λ x p c h. refl };
     })
 
+-- the value of a word of a kept floor is what contracts see a look give
 pub is_looked : (f : PlainState) (p : CpuNo) (c a : ℕ) → IsKept f → HasWord (view_of f) p c → a ≡ value_in f.asked p c → IsLooked p c a (view_of f) (view_of f)
 is_looked f p c a kept word is =
     rw is (record {
@@ -45,6 +47,7 @@ is_looked f p c a kept word is =
     looked q d true h false i = refl
     looked q d false h t i = refl
 
+-- testing numbers for equality is symmetric
 eqb_turned : (a b : ℕ) → eqb a b ≡ eqb b a
 eqb_turned a b = go (cases_eq a b)
   where
@@ -56,6 +59,7 @@ eqb_turned a b = go (cases_eq a b)
 word_asked : (p : CpuNo) (c : ℕ) (q : CpuNo) (d : ℕ) → is_ask q d (record { cpu = p; class = c }) ≡ is_word p c q d
 word_asked p c q d = rw (eqb_turned p.0 q.0, eqb_turned c d) refl
 
+-- marking an event of a drawn number for a class on a processor is seen by contracts as that mark
 pub is_marked_so : (f g : PlainState) (p : CpuNo) (c n : ℕ) → IsKept f → HasWord (view_of f) p c → n < f.next → g ≡ marked p c n f →
     IsMarked p c n (view_of f) (view_of g)
 is_marked_so f g p c n kept word low state =

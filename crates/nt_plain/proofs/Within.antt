@@ -28,25 +28,30 @@ use Rattle.nt_plain.proofs.Writes.{AskWithin}
 
 -- ---- requests
 
+-- requests that fit the script are of a processor below its count and of one of the sixteen classes
 pub all_within : (s : Script) (asks : List Ask) → All (AskFits s) asks → All (AskWithin s.cpus) asks
 all_within s asks h k d l =
     let fits = h k d l in record { cpu = ltb-true (get_or asks k d).cpu.0 s.cpus fits.cpu; class = fits.class }
 
 -- ---- lanes
 
+-- the sixteen values of a processor's row fit in a list of so many rows
 pub row_room : (cpus n p rows : ℕ) → n < rows → p < cpus → (n * cpus + p) * 16 + 16 ≤ rows * cpus * 16
 row_room cpus n p rows h k =
     let row : n * cpus + p < rows * cpus = below_rows cpus rows n p h k in omega (arith, row)
 
+-- the row of a processor for each lane that fits the script stands within the told values
 pub rows_within : (s : Script) (told : List ℕ) (lanes : List Lane) (p : CpuNo) → length told ≡ lane_count s * s.cpus * 16 → All (LaneFits s) lanes →
     p.0 < s.cpus → All (λ x. row_of s.cpus (lane_number s x) p * 16 + 16 ≤ length told) lanes
 rows_within s told lanes p len fits cpu k d l =
     rw len (row_room s.cpus (lane_number s (get_or lanes k d)) p.0 (lane_count s) (number_below s (get_or lanes k d) (fits k d l)) cpu)
 
+-- the numbers of lanes that fit a script of at most 1024 lanes fit 32 bits
 pub numbers_within : (s : Script) (lanes : List Lane) → lane_count s ≤ 1024 → All (LaneFits s) lanes → All (λ x. lane_number s x < 2 ^ 32) lanes
 numbers_within s lanes small fits k d l =
     let low = number_below s (get_or lanes k d) (fits k d l) in omega (arith, low)
 
+-- the place of each request for each lane, both fitting the script, stands within the told values
 pub places_within : (s : Script) (told : List ℕ) (lanes : List Lane) (asked : List Asked) (asks : List Ask) → length told ≡ lane_count s * s.cpus * 16 →
     All (LaneFits s) lanes → as_asks asked ≡ asks → All (AskFits s) asks → All (λ x. All (λ a. told_place s x a.cpu a.class < length told) asked) lanes
 places_within s told lanes asked asks len fits e within k d l i b j =
@@ -74,6 +79,7 @@ others_untold s told lanes p fits untold k d l c h other =
     let here : lane_fits s (get_or lanes k d) ≡ true = fits k d l in
     rw here at (untold (get_or lanes k d) c h other)
 
+-- lanes that fit the script tell what their rows have
 lanes_tell : (s : Script) (told : List ℕ) (lanes : List Lane) (p : CpuNo) (c : ℕ) → All (LaneFits s) lanes → told_over (row_value s told) lanes p c
     ≡ told_over (told_in s told) lanes p c
 lanes_tell s told [] p c fits = refl
@@ -83,6 +89,7 @@ lanes_tell s told (x ∷ lanes) p c fits =
     let here : lane_fits s x ≡ true = all_head (LaneFits s) x lanes fits in
     rw (here, rest) refl
 
+-- the greatest value told by some lanes is at most a bound that holds for each lane
 pub over_below : (told : Told) (lanes : List Lane) (p : CpuNo) (c v : ℕ) → ((x : Lane) → told x p c ≤ v) → told_over told lanes p c ≤ v
 over_below told [] p c v h = omega arith
 over_below told (x ∷ lanes) p c v h =
@@ -90,6 +97,7 @@ over_below told (x ∷ lanes) p c v h =
     let rest : told_over told lanes p c ≤ v = over_below told lanes p c v h in
     omega (arith, here, rest)
 
+-- a processor's own value is the raised told one if it noticed its own request as well
 own_told : (asked : Bool) (n told old over own : ℕ) → told ≤ n → over ≡ max old told → own ≡ max over (if asked then n + 1 else 0) → own
     ≡ max old (raised asked n told)
 own_told true n told old over own l e f = omega (arith, l, e, f)
@@ -135,12 +143,14 @@ told_of f st w s slice lanes asked asks old over own script same_lanes touched s
         (by_lanes c h) (by_own c h)
         ∙ ap (λ (v : ℕ). max (value_at old c) v) (sym (get_or-table 16 c (λ k. raised (asks_in f.script st w f.lanes st.cpu k) f.next (told k)) 0 h))
 
+-- the word of each request that fits the script stands within the words
 pub words_within : (s : Script) (words : List ℕ) (asked : List Asked) (asks : List Ask) → length words ≡ 16 * s.cpus → as_asks asked ≡ asks →
     All (AskFits s) asks → All (λ a. word_place a.cpu a.class < length words) asked
 words_within s words asked asks len e within k d l =
     let ask = each_asked (AskWithin s.cpus) asked asks e (all_within s asks within) k d l in
     omega (arith, len, ask.cpu, ask.class)
 
+-- the row in which an event below the limit marks each fitting request stands within the marks
 pub marks_within : (s t : Script) (limit n : ℕ) (marks : List ℕ) (asked : List Asked) (asks : List Ask) → length marks ≡ limit * s.cpus → n < limit → t ≡ s →
     as_asks asked ≡ asks → All (AskFits s) asks → All (λ a. row_of t.cpus n a.cpu < length marks) asked
 marks_within s t limit n marks asked asks len low script e within k d l =

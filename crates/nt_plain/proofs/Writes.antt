@@ -18,23 +18,28 @@ pub record AskWithin (cpus : ℕ) (a : Ask) : Type 0 where
   pub cpu : a.cpu.0 < cpus
   pub class : a.class < 16
 
+-- a choice between a number and itself is that number
 either : (b : Bool) (x : ℕ) → (if b then x else x) ≡ x
 either true x = refl
 either false x = refl
 
+-- true is true or anything
 or_true : (b : Bool) → true ≡ (b || true)
 or_true true = refl
 or_true false = refl
 
+-- anything or false is itself
 or_false : (b : Bool) → (b || false) ≡ b
 or_false true = refl
 or_false false = refl
 
+-- adding a test that always fails to a disjunction changes nothing
 over_nothing : (b c : Bool) → b ≡ (b || (c && false))
 over_nothing true c = refl
 over_nothing false true = refl
 over_nothing false false = refl
 
+-- two tests under the same condition join into one under it
 regroup : (b c x y : Bool) → ((b || (c && x)) || (c && y)) ≡ (b || (c && (x || y)))
 regroup true c x y = refl
 regroup false true x y = refl
@@ -46,6 +51,7 @@ pub written : (xs : List ℕ) (i j v : ℕ) (b : Bool) → i < length xs → (b 
 written xs i j v true h same other = rw (same refl) (get_or-set_same xs i v 0 h)
 written xs i j v false h same other = get_or-set_other xs i j v 0 (other refl)
 
+-- a request that is not for a class on a processor differs from it in the processor or the class
 pub is_ask_false : (q : CpuNo) (d : ℕ) (a : Ask) → is_ask q d a ≡ false → a.cpu.0 ≡ q.0 → a.class ≡ d → ⊥
 is_ask_false q d a h e f = go (and_cases (a.cpu.0 == q.0) (a.class == d) h)
   where
@@ -70,6 +76,7 @@ word_one cpus to a xs q d len fits k = go (is_ask q d a) refl
         get_or-set_other xs (word_place a.cpu a.class) (word_place q d) (max (value_in xs a.cpu a.class) to) 0
         (λ i. let s = same_word q.0 a.cpu.0 d a.class k fits.class i in is_ask_false q d a e (sym s.0) (sym s.1))
 
+-- one more request raises a value, if it asks or if the rest does
 one_more : (b more : Bool) (old new to all : ℕ) → old ≤ to → new ≡ (if b then max old to else old) → (new ≤ to → all ≡ (if more then to else new)) → all
     ≡ (if b || more then to else old)
 one_more true more old new to all low one next =
@@ -93,6 +100,7 @@ words_after cpus to (a ∷ asks) xs q d len fits k low =
 
 -- ---- marks
 
+-- setting the bit of a class sets that bit and leaves the bits of other classes
 bit_after : (c d x : ℕ) → c < 16 → (b : Bool) → eqb c d ≡ b → eqb (bit_at (with_bit c x) d) 1 ≡ (eqb (bit_at x d) 1 || b)
 bit_after c d x h true e =
     let at : c ≡ d = eqb-true c d e in

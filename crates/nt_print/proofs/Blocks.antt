@@ -3,6 +3,7 @@ use Rattle.std.proofs.Common.{◌≡◌, ◌∙◌, ℕ, ◌+◌, ◌-◌, ◌<�
 use Rattle.std.proofs.lemmas.List.{get_or-drop, get_or-take, length-drop, length-take-le}
 use Rattle.nt_print.specs.Flags.{AreClear}
 
+-- the flags from one place to another inside the list are as many as the difference of the places
 pub block_length : (flags : List Bool) (a e : ℕ) → a ≤ e → e ≤ length flags → length (take (e - a) (drop a flags)) ≡ e - a
 block_length flags a e le within = length-take-le (e - a) (drop a flags) (omega (arith, length-drop a flags, le, within))
 

@@ -8,10 +8,12 @@ use Rattle.nt_event.specs.declared.events.Event.{Event}
 use Rattle.nt_print.specs.Counts.{TellsMade}
 use Rattle.nt_print.specs.Report.{made}
 
+-- an event of a processor makes one more event of that processor among the first events
 made_by_it : (p : ℕ) (events : List Event) (k : ℕ) (e : Event) → k < length events → e ≡ get_or events k e → (e.cpu.0 == p) ≡ true →
     made p (take (k + 1) events) ≡ made p (take k events) + 1
 made_by_it p events k e lt is by = count_by_more_yes (λ (x : Event). x.cpu.0 == p) events k e lt (ap (λ (x : Event). x.cpu.0 == p) (sym is) ∙ by)
 
+-- an event of another processor leaves a processor's count among the first events as it was
 made_by_another : (p : ℕ) (events : List Event) (k : ℕ) (e : Event) → k < length events → e ≡ get_or events k e → (e.cpu.0 == p) ≡ false →
     made p (take (k + 1) events) ≡ made p (take k events)
 made_by_another p events k e lt is by = count_by_more_no (λ (x : Event). x.cpu.0 == p) events k e lt (ap (λ (x : Event). x.cpu.0 == p) (sym is) ∙ by)

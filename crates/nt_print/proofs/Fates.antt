@@ -11,6 +11,7 @@ use Rattle.nt_event.specs.declared.events.What.TheVariants.{Begin, Call, Flush}
 use Rattle.nt_event.specs.Fate.{ApcThing, BegunBy, DpcThing, Fate, FlushedBy, RemovedBy, StillWaits, Thing, fate_by, fate_of, first_fate, still_waits, uses_up}
 use Rattle.nt_print.specs.Uses.{named_by, names_it, removed_by, removes_it}
 
+-- or with false on the right changes no flag
 or_false : (b : Bool) → (b || false) ≡ b
 or_false true = refl
 or_false false = refl
@@ -28,6 +29,7 @@ uses_split (ApcThing a) n (Call f (Unqueue x) Yes) = refl
 uses_split (DpcThing d) n w = refl
 uses_split (ApcThing a) n w = refl
 
+-- the fate that an event gives to an insert is never that it still waits
 comes : (w : What) (m : ℕ) → still_waits (fate_by w m) ≡ false
 comes (Begin b from) m = refl
 comes (Flush a from) m = refl

@@ -25,6 +25,7 @@ use Rattle.nt_print.specs.Uses.{inserted_at, is_it, thing_fits, thing_of}
 use Rattle.nt_print.proofs.Past.{inserted_read}
 use Rattle.nt_print.proofs.WaitRows.{element_at}
 
+-- a place below the number of briefs is a place of the events that are read from them
 pub below : (bs : List Brief) (rises : List Rises) (k : ℕ) → k < length bs → k < length (events_in bs rises)
 below bs rises k lt = let many = as_many bs rises in omega (arith, many, lt)
 
@@ -50,10 +51,12 @@ cleared_by_it bs rises k i b flags so lt le h =
 
 -- ---- what an event names, which is the same for all values of looks
 
+-- whether what a processor did fits a script does not depend on the values of looks
 fits_any : (s : Script) (d : Did) (r q : Rises) → what_fits s (what_of r d) ≡ what_fits s (what_of q d)
 fits_any s (did.Look at) r q = refl
 fits_any s d r q = refl
 
+-- an event read from a brief fits a script alike with the values of looks and without them
 fits_same : (s : Script) (rises : List Rises) (b : Brief) → event_fits s (event_of no_rises b) ≡ event_fits s (event_in rises b)
 fits_same s rises b = ap (λ (x : Bool). (has_cpu s b.cpu && where_given (has_thread s) b.thread) && x) (fits_any s b.did no_rises (values_of rises b))
 
@@ -68,12 +71,14 @@ each_fits s (x ∷ bs) rises (suc i) b lt h =
 
 -- ---- what an event inserts
 
+-- what is inserted by an action that fits a script is an object of the script
 thing_fit : (s : Script) (w : What) → what_fits s w ≡ true → IfSome (inserted_thing w) (λ thing. thing_fits s thing ≡ true)
 thing_fit s (what.Call f (cmd.Queue d) Yes) h = h
 thing_fit s (what.Call f (cmd.InsertApc a) Yes) h = h
 thing_fit s (what.Fire d Yes) h = h
 thing_fit s w h = tt
 
+-- if an event fits a script, what it does fits the script
 what_fit : (s : Script) (e : Event) → event_fits s e ≡ true → what_fits s e.what ≡ true
 what_fit s e h = (and_parts (has_cpu s e.cpu && where_given (has_thread s) e.thread) (what_fits s e.what) h).1
 

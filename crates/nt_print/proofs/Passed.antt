@@ -25,12 +25,14 @@ through P a (suc d) e is step h =
 abbrev pub AllFit : Script → List Event → Type 0
 AllFit s events = (n : ℕ) → n < length events → IfSome (inserted_at events n) (λ thing. thing_fits s thing ≡ true)
 
+-- from a cleared number up to the next one that may wait, no event is an insert that waits
 clear_waits : (s : Script) (events : List Event) (t : Tally) (a e n : ℕ) → TalliesAll s events t → AllFit s events → AreClear t.unnamed a e →
     e ≤ length events → a ≤ n → n < e → None ≡ waits_at (reverse events) n (inserted_at events n)
 clear_waits s events t a e n tallies fits clear within lo lt =
     let below : n < length events = omega (arith, lt, within) in
     none_waits s events n t below tallies (fits n below) (clear n lo lt)
 
+-- the rows of waits stay as they are over events in a stretch where no flag is set
 pub rows_passed : (s : Script) (names : NameLists) (events : List Event) (t : Tally) (a e : ℕ) (old now : List ℕ) → TalliesAll s events t → AllFit s events →
     AreClear t.unnamed a e → a ≤ e → e ≤ length events →
     now ≡ old ++ rows_text (waits_so_far names (reverse events) (reverse (take a events))) →
@@ -39,6 +41,7 @@ rows_passed s names events t a e old now tallies fits clear le within before =
     through (λ (m : ℕ). now ≡ old ++ rows_text (waits_so_far names (reverse events) (reverse (take m events)))) a (e - a) e (omega (arith, le))
     (λ n lo lt h. none_put names events n old now (omega (arith, lt, within)) h (clear_waits s events t a e n tallies fits clear within lo lt)) before
 
+-- the number of waits stays as it is over events in a stretch where no flag is set
 pub count_passed : (s : Script) (events : List Event) (t : Tally) (a e count : ℕ) → TalliesAll s events t → AllFit s events → AreClear t.unnamed a e →
     a ≤ e → e ≤ length events → count ≡ waits_before events a → count ≡ waits_before events e
 count_passed s events t a e count tallies fits clear le within before =

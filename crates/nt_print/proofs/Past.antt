@@ -5,11 +5,13 @@ use Rattle.nt_event.specs.declared.events.Event.{Event}
 use Rattle.nt_event.specs.Fate.{inserted_thing}
 use Rattle.nt_print.specs.Uses.{inserted_at}
 
+-- the events up to one more are, newest first, that event and the events up to it
 pub past_more : (events : List Event) (k : ℕ) (e : Event) → k < length events → e ≡ get_or events k e → reverse (take (k + 1) events)
     ≡ e ∷ reverse (take k events)
 past_more events k e lt is =
     ap reverse (take_more events k e lt) ∙ reverse-append (take k events) (get_or events k e ∷ []) ∙ ap (λ (x : Event). x ∷ reverse (take k events)) (sym is)
 
+-- the events up to a place are as many as the number of the place
 pub past_length : (events : List Event) (k : ℕ) → k ≤ length events → length (reverse (take k events)) ≡ k
 past_length events k le = length-reverse (take k events) ∙ length-take-le k events le
 

@@ -14,12 +14,14 @@ use Rattle.nt_print.specs.Spins.{last_spin, spin_after}
 use Rattle.nt_print.specs.Tally.{TellsSpins, noted_rest, noted_spin, rests_by, with_event}
 use Rattle.nt_print.proofs.Past.{past_length, past_more}
 
+-- noting a spin keeps the number of processors whose spins are noted
 pub length-noted_spin : (k p : ℕ) (m : LockMove) (spins : List (Option Spun)) → length (noted_spin k p m spins) ≡ length spins
 length-noted_spin k p (Spins l) spins = length-set spins p (Some (record { number = k; lock = l }))
 length-noted_spin k p (Gets l) spins = refl
 length-noted_spin k p (Frees l) spins = refl
 length-noted_spin k p NoMove spins = refl
 
+-- noting a rest keeps the number of processors whose rests are noted
 pub length-noted_rest : (p made : ℕ) (rest : Bool) (numbers : List ℕ) → length (noted_rest p made rest numbers) ≡ length numbers
 length-noted_rest p made true numbers = length-set numbers p made
 length-noted_rest p made false numbers = refl
@@ -54,15 +56,19 @@ noted n c p m spins lt = go (c == p) refl
 abbrev says : ℕ → ℕ → Bool
 says rest many = nat_lt 0 rest && (rest == many)
 
+-- raising a processor's count by one is read at that processor as one more
 made_more : (made : List ℕ) (p : ℕ) → p < length made → get_or (set made p (get_or made p 0 + 1)) p 0 ≡ get_or made p 0 + 1
 made_more made p lt = get_or-set_same made p (get_or made p 0 + 1) 0 lt
 
+-- raising a processor's count leaves the count of another processor
 made_elsewhere : (made : List ℕ) (c p : ℕ) → p ≢ c → get_or (set made c (get_or made c 0 + 1)) p 0 ≡ get_or made p 0
 made_elsewhere made c p apart = get_or-set_other made c p (get_or made c 0 + 1) 0 apart
 
+-- the rest after a count of events says so at that very count
 says_now : (n : ℕ) → says (n + 1) (n + 1) ≡ true
 says_now n = ap (λ (b : Bool). b && ((n + 1) == (n + 1))) (lt-ltb 0 (n + 1) (omega arith)) ∙ eq-eqb (n + 1) (n + 1) refl
 
+-- a rest noted at an earlier count does not say that it was the last event
 says_not : (rest many : ℕ) → rest ≤ many → says rest (many + 1) ≡ false
 says_not rest many le =
     ap (λ (b : Bool). nat_lt 0 rest && b) (ne_eqb rest (many + 1) (λ e. omega (arith, e, le))) ∙ and_false (nat_lt 0 rest)
@@ -80,10 +86,12 @@ rest_here made numbers p true lt within le =
 rest_here made numbers p false lt within le =
     ap (λ (n : ℕ). says (get_or numbers p 0) n) (made_more made p lt) ∙ says_not (get_or numbers p 0) (get_or made p 0) le
 
+-- noting a rest of one processor leaves the noted number of another
 rest_elsewhere : (numbers : List ℕ) (c p many : ℕ) (rest : Bool) → p ≢ c → get_or (noted_rest c many rest numbers) p 0 ≡ get_or numbers p 0
 rest_elsewhere numbers c p many true apart = get_or-set_other numbers c p many 0 apart
 rest_elsewhere numbers c p many false apart = refl
 
+-- with one event more the noted rest is at most the number of events that the processor made
 rest_within : (made numbers : List ℕ) (p : ℕ) (rest : Bool) → p < length made → p < length numbers → get_or numbers p 0 ≤ get_or made p 0 →
     get_or (noted_rest p (get_or (set made p (get_or made p 0 + 1)) p 0) rest numbers) p 0 ≤ get_or (set made p (get_or made p 0 + 1)) p 0
 rest_within made numbers p true lt within le =
@@ -93,6 +101,7 @@ rest_within made numbers p false lt within le = let more = made_more made p lt i
 
 -- ---- one event more
 
+-- with one event more the tally still tells the last spin of each processor
 one_more : (events past : List Event) (e : Event) (t : Tally) → length t.rested ≡ length t.made → TellsSpins past t →
     TellsSpins (e ∷ past) (with_event events (length past) e t)
 one_more events past e t many tells = record { spins = spins; rests = rests; before = before }

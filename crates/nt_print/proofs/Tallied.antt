@@ -23,16 +23,19 @@ use Rattle.nt_print.proofs.Fates.{one_later, waits_at_first}
 use Rattle.nt_print.proofs.Spinning.{length-noted_rest, length-noted_spin, spins_step}
 use Rattle.nt_print.proofs.Past.{inserted_read, past_length, past_more}
 
+-- and with true on the right changes no flag
 and_true : (b : Bool) → (b && true) ≡ b
 and_true true = refl
 and_true false = refl
 
+-- and with false on the right is false
 and_false : (b : Bool) → (b && false) ≡ false
 and_false true = refl
 and_false false = refl
 
 -- ---- how many events did something
 
+-- counting one event more by a test counts it if it passes
 many_step : (test : What → Bool) (events : List Event) (k n : ℕ) (e : Event) → k < length events → e ≡ get_or events k e →
     n ≡ how_many test (take k events) → counted_if (test e.what) n ≡ how_many test (take (k + 1) events)
 many_step test events k n e lt is h = go (test e.what) refl
@@ -44,6 +47,7 @@ many_step test events k n e lt is h = go (test e.what) refl
     go true d = ap (λ (m : ℕ). m + 1) h ∙ sym (count_by_more_yes does events k e lt (ap does (sym is) ∙ d))
     go false d = h ∙ sym (count_by_more_no does events k e lt (ap does (sym is) ∙ d))
 
+-- with one event more the tally still counts the events of each kind
 counts_step : (events : List Event) (k : ℕ) (e : Event) (t : Tally) → k < length events → e ≡ get_or events k e → Counts (take k events) t →
     Counts (take (k + 1) events) (with_event events k e t)
 counts_step events k e t lt is c = record {
@@ -61,10 +65,12 @@ hit : (flags : List Bool) (n : ℕ) (same : Bool) → n < length flags →
 hit flags n true l = get_or-set_same flags n false false l ∙ sym (and_false (get_or flags n false))
 hit flags n false l = sym (and_true (get_or flags n false))
 
+-- clearing one flag of a list leaves every other flag
 missed : (flags : List Bool) (m n : ℕ) (b : Bool) → m ≢ n → get_or (if b then set flags m false else flags) n false ≡ get_or flags n false
 missed flags m n true apart = get_or-set_other flags m n false false (λ e. apart (sym e))
 missed flags m n false apart = refl
 
+-- after an event that names an insert, an insert of before is unnamed if it was and is not the named one
 named_step : (events : List Event) (k n : ℕ) (o : Option Inserted) (thing : Thing) (flags : List Bool) → n < k → n < length flags →
     inserted_at events n ≡ Some thing → get_or (with_named events k o flags) n false ≡ (get_or flags n false && not (names_it o thing n))
 named_step events k n None thing flags lt l at = sym (and_true (get_or flags n false))
@@ -88,12 +94,14 @@ named_step events k n (Some i) thing flags lt l at = go (i.number == n) refl
         rw (e, and_false (same_thing i.thing thing), and_true before)
         (missed flags i.number n (nat_lt i.number k && is_it i.thing (inserted_at events i.number)) (eqb-false i.number n e))
 
+-- setting the flag of a new insert leaves every other flag
 inserted_elsewhere : (k n : ℕ) (o : Option Thing) (flags : List Bool) → n ≢ k → get_or (with_inserted k o flags) n false ≡ get_or flags n false
 inserted_elsewhere k n None flags apart = refl
 inserted_elsewhere k n (Some thing) flags apart = get_or-set_other flags k n true false apart
 
 -- ---- what was removed last
 
+-- after a removal number is written, a place's number is still an earlier one if another place was written
 number_step : (numbers : List ℕ) (x d k n : ℕ) → d < length numbers → n < k →
     nat_le (get_or (set numbers x k) d 0) n ≡ (nat_le (get_or numbers d 0) n && not (x == d))
 number_step numbers x d k n l lt = go (x == d) refl
@@ -109,18 +117,21 @@ number_step numbers x d k n l lt = go (x == d) refl
     go false e =
         ap (λ (m : ℕ). nat_le m n) (get_or-set_other numbers x d k 0 (λ s. eqb-false x d e (sym s))) ∙ sym (and_true before)
 
+-- after one event more a DPC's last removal is before an insert if it was and the event removes it not
 dpc_step : (o : Option Thing) (numbers : List ℕ) (d k n : ℕ) → d < length numbers → n < k →
     nat_le (get_or (removed_dpcs k o numbers) d 0) n ≡ (nat_le (get_or numbers d 0) n && not (removes_it o (DpcThing (record { 0 = d }))))
 dpc_step None numbers d k n l lt = sym (and_true (nat_le (get_or numbers d 0) n))
 dpc_step (Some (DpcThing x)) numbers d k n l lt = number_step numbers x.0 d k n l lt
 dpc_step (Some (ApcThing x)) numbers d k n l lt = sym (and_true (nat_le (get_or numbers d 0) n))
 
+-- after one event more an APC's last removal is before an insert if it was and the event removes it not
 apc_step : (o : Option Thing) (numbers : List ℕ) (a k n : ℕ) → a < length numbers → n < k →
     nat_le (get_or (removed_apcs k o numbers) a 0) n ≡ (nat_le (get_or numbers a 0) n && not (removes_it o (ApcThing (record { 0 = a }))))
 apc_step None numbers a k n l lt = sym (and_true (nat_le (get_or numbers a 0) n))
 apc_step (Some (DpcThing x)) numbers a k n l lt = sym (and_true (nat_le (get_or numbers a 0) n))
 apc_step (Some (ApcThing x)) numbers a k n l lt = number_step numbers x.0 a k n l lt
 
+-- after one event more an object's last removal is before an insert if it was and the event removes it not
 removal_step : (s : Script) (events : List Event) (k n : ℕ) (e : Event) (t : Tally) (thing : Thing) → HasPlaces s events t → thing_fits s thing ≡ true →
     n < k → nat_le (last_removal (with_event events k e t) thing) n ≡ (nat_le (last_removal t thing) n && not (removes_it (removed_by e.what) thing))
 removal_step s events k n e t (DpcThing d) p fits lt =
@@ -145,16 +156,19 @@ number_within numbers x d k h = go (x == d) refl
     go true e = subst (λ (m : ℕ). get_or (set numbers m k) d 0 ≤ k) (sym (eqb-true x d e)) (past (nat_lt d (length numbers)) refl)
     go false e = let other = get_or-set_other numbers x d k 0 (λ s. eqb-false x d e (sym s)) in omega (arith, other, h)
 
+-- after one event more a DPC's last removal has a number of at most that event
 dpc_within : (o : Option Thing) (numbers : List ℕ) (d k : ℕ) → get_or numbers d 0 ≤ k → get_or (removed_dpcs k o numbers) d 0 ≤ k
 dpc_within None numbers d k h = h
 dpc_within (Some (DpcThing x)) numbers d k h = number_within numbers x.0 d k h
 dpc_within (Some (ApcThing x)) numbers d k h = h
 
+-- after one event more an APC's last removal has a number of at most that event
 apc_within : (o : Option Thing) (numbers : List ℕ) (a k : ℕ) → get_or numbers a 0 ≤ k → get_or (removed_apcs k o numbers) a 0 ≤ k
 apc_within None numbers a k h = h
 apc_within (Some (DpcThing x)) numbers a k h = h
 apc_within (Some (ApcThing x)) numbers a k h = number_within numbers x.0 a k h
 
+-- after one event more an object's last removal has a number of at most that event
 removal_within : (events : List Event) (k : ℕ) (e : Event) (t : Tally) (thing : Thing) → last_removal t thing ≤ k →
     last_removal (with_event events k e t) thing ≤ k
 removal_within events k e t (DpcThing d) h = dpc_within (removed_by e.what) t.dpcs d.0 k h
@@ -170,6 +184,7 @@ together true true true removes = refl
 together true false false removes = refl
 together true false true removes = refl
 
+-- naming an insert leaves the number of flags
 length-with_named : (events : List Event) (k : ℕ) (o : Option Inserted) (flags : List Bool) → length (with_named events k o flags) ≡ length flags
 length-with_named events k None flags = refl
 length-with_named events k (Some i) flags = go (nat_lt i.number k && is_it i.thing (inserted_at events i.number))
@@ -178,10 +193,12 @@ length-with_named events k (Some i) flags = go (nat_lt i.number k && is_it i.thi
     go true = length-set flags i.number false
     go false = refl
 
+-- noting a new insert leaves the number of flags
 length-with_inserted : (k : ℕ) (o : Option Thing) (flags : List Bool) → length (with_inserted k o flags) ≡ length flags
 length-with_inserted k None flags = refl
 length-with_inserted k (Some thing) flags = length-set flags k true
 
+-- with one event more the tally still tells which inserts wait
 waiting_step : (s : Script) (events : List Event) (k : ℕ) (e : Event) (t : Tally) → k < length events → e ≡ get_or events k e → Tallies s events k t →
     TellsWaiting s events (k + 1) (with_event events k e t)
 waiting_step s events k e t lt is a n thing below at fits = go (n == k) refl
@@ -230,16 +247,19 @@ waiting_step s events k e t lt is a n thing below at fits = go (n == k) refl
 
 -- ---- the places
 
+-- noting the removal of a DPC leaves the number of noted numbers
 length-removed_dpcs : (k : ℕ) (o : Option Thing) (numbers : List ℕ) → length (removed_dpcs k o numbers) ≡ length numbers
 length-removed_dpcs k None numbers = refl
 length-removed_dpcs k (Some (DpcThing x)) numbers = length-set numbers x.0 k
 length-removed_dpcs k (Some (ApcThing x)) numbers = refl
 
+-- noting the removal of an APC leaves the number of noted numbers
 length-removed_apcs : (k : ℕ) (o : Option Thing) (numbers : List ℕ) → length (removed_apcs k o numbers) ≡ length numbers
 length-removed_apcs k None numbers = refl
 length-removed_apcs k (Some (DpcThing x)) numbers = refl
 length-removed_apcs k (Some (ApcThing x)) numbers = length-set numbers x.0 k
 
+-- with one event more the lists of the tally still have a place for each processor, event, DPC and APC
 places_step : (s : Script) (events : List Event) (k : ℕ) (e : Event) (t : Tally) → HasPlaces s events t → HasPlaces s events (with_event events k e t)
 places_step s events k e t p = record {
   made = length-set t.made e.cpu.0 (get_or t.made e.cpu.0 0 + 1) ∙ p.made;
@@ -253,6 +273,7 @@ places_step s events k e t p = record {
 
 -- ---- the whole tally
 
+-- adding the next event to the tally of the first events gives the tally of one event more
 pub tally_step : (s : Script) (events : List Event) (k : ℕ) (e : Event) (t : Tally) → k < length events → e ≡ get_or events k e → Tallies s events k t →
     Tallies s events (k + 1) (with_event events k e t)
 tally_step s events k e t lt is a = record {
@@ -279,6 +300,7 @@ waits_told s events n t (Some thing) lt a at fits =
     (a.waiting n thing lt (sym at) fits ∙ ap (λ (es : List Event). still_waits (fate_of thing n (reverse es))) (take-length events))
     ∙ ap (waits_at (reverse events) n) at
 
+-- an insert that was named does not wait by the tally
 named_waits_not : (t : Tally) (n : ℕ) (o : Option Thing) → get_or t.unnamed n false ≡ false → waiting_by t n o ≡ None
 named_waits_not t n None h = refl
 named_waits_not t n (Some thing) h = ap (λ (b : Bool). if b && nat_le (last_removal t thing) n then Some thing else None) h

@@ -12,10 +12,12 @@ use Rattle.nt_event.specs.Step.{turn_at, turn_of}
 use Rattle.nt_log.specs.Schedules.{turn_fits, turns_fit}
 use Rattle.nt_event.specs.Fitting.{event_fits, events_fit, what_fits}
 
+-- the turn of an action that fits a script fits the script
 turn_fit : (s : Script) (p : CpuNo) (w : What) → what_fits s w ≡ true → turn_fits s (turn_at p w) ≡ true
 turn_fit s p (Switch t status) h = h
 turn_fit s p w h = refl
 
+-- the turns of events that fit the script fit it too
 pub turns_of_fit : (s : Script) (events : List Event) → events_fit s events ≡ true → turns_fit s (map turn_of events) ≡ true
 turns_of_fit s [] h = refl
 turns_of_fit s (e ∷ es) h =

@@ -27,6 +27,7 @@ waits_before events k = length (filter (waits_in (reverse events)) (inserts (rev
 abbrev pub waits_so_far : NameLists → List Event → List Event → List Row
 waits_so_far names all past = map (wait_row names) (filter (waits_in all) (inserts past))
 
+-- of the insert of one event the one that waits is kept by the test for waiting inserts
 kept : (all : List Event) (n : ℕ) (o : Option Thing) → filter (waits_in all) (inserted_by n o) ≡ inserted_by n (waits_at all n o)
 kept all n None = refl
 kept all n (Some thing) = go (still_waits (fate_of thing n all))
@@ -51,6 +52,7 @@ waiting_more events all k e lt is =
     ap (λ (xs : List Inserted). filter (waits_in all) (inserts past) ++ xs) (sym same) ∙ sym split
     ∙ ap (λ (xs : List Event). filter (waits_in all) (inserts xs)) (sym (past_more events k e lt is))
 
+-- adding the row of the next event's insert, if it waits, gives the rows of waits up to one event more
 pub waits_more : (names : NameLists) (events all : List Event) (k : ℕ) (e : Event) → k < length events → e ≡ get_or events k e
     → waits_so_far names all (reverse (take k events)) ++ map (wait_row names) (inserted_by k (waits_at all k (inserted_at events k)))
     ≡ waits_so_far names all (reverse (take (k + 1) events))
@@ -58,11 +60,13 @@ waits_more names events all k e lt is =
     sym (map-append (wait_row names) (filter (waits_in all) (inserts (reverse (take k events)))) (inserted_by k (waits_at all k (inserted_at events k))))
     ∙ ap (map (wait_row names)) (waiting_more events all k e lt is)
 
+-- a place below the length of a list has an element
 pub element_at : {X : Type 0} (xs : List X) (k : ℕ) → k < length xs → (x : X) × (x ≡ get_or xs k x)
 element_at [] k lt = absurd (omega (arith, lt))
 element_at (x ∷ xs) zero lt = (x, refl)
 element_at (x ∷ xs) (suc k) lt = element_at xs k (omega (arith, lt))
 
+-- putting the row of the next event's insert behind a text of wait rows gives the text of one event more
 pub waits_put : (names : NameLists) (events : List Event) (k : ℕ) (old now next : List ℕ) → k < length events → now ≡ old
     ++ rows_text (waits_so_far names (reverse events) (reverse (take k events)))
     → next ≡ now ++ rows_text (map (wait_row names) (inserted_by k (waits_at (reverse events) k (inserted_at events k)))) → next ≡ old
@@ -83,6 +87,7 @@ none_put names events k old now lt before none =
 
 -- ---- how many wait
 
+-- an insert that is there is one more counted, and none leaves the count
 how_many : {X : Type 0} (thing_of : X → Thing) (n count : ℕ) (o : Option X) →
     count + length (inserted_by n (option_map thing_of o)) ≡ (if is_some o then count + 1 else count)
 how_many thing_of n count None = omega arith

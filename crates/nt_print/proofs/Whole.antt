@@ -8,6 +8,7 @@ use Rattle.nt_text.specs.Lines.{Row, row_text, rows_text}
 use Rattle.nt_text.proofs.RowTexts.{rows_put}
 use Rattle.nt_print.specs.Report.{cut_rows, event_rows, report_text, spin_rows, wait_rows}
 
+-- the first row, events, cuts, spins, waits and schedule put one behind the other are the report
 pub report_put : (input : Input) (h : History) (events : List Event) (first lines cuts spins waits whole : List ℕ) → events ≡ h.events →
     first ≡ row_text (codes "report" ∷ []) → lines ≡ first ++ rows_text (event_rows input 0 events) →
     cuts ≡ lines ++ rows_text (cut_rows h 0 input.script.cpus) → spins ≡ cuts ++ rows_text (spin_rows input.names h 0 input.script.cpus) →

@@ -24,6 +24,7 @@ use Rattle.nt_ranges.proofs.Lists.{each_at}
 abbrev pub CommandsHaveRange : Script → Type 0
 CommandsHaveRange s = AllByRecursion (λ r. AllByRecursion HasRange r.commands) s.routines
 
+-- a command at a place of a routine has its range, if all commands of the script have theirs
 in_routine : (s : Script) (o : Option RoutineNo) (i : ℕ) (c : Command) → CommandsHaveRange s → slice_get (commands_of s o) i ≡ Some c → HasRange c
 in_routine s None i c h e = each_at HasRange [] i c tt e
 in_routine s (Some r) i c h e = go (slice_get s.routines r.0) refl e
@@ -33,6 +34,7 @@ in_routine s (Some r) i c h e = go (slice_get s.routines r.0) refl e
     go (Some x) p q =
         each_at HasRange x.commands i c (each_at (λ r. AllByRecursion HasRange r.commands) s.routines r.0 x h p) q
 
+-- the next command of a frame has its range, if all commands of the script have theirs
 next_has_range : (s : Script) (p : CpuNo) (f : Frame) (c : Command) → CommandsHaveRange s → next_command s p f ≡ Some c → HasRange c
 next_has_range s p f c h e = go f.leaving e
   where
@@ -43,6 +45,7 @@ next_has_range s p f c h e = go f.leaving e
         no k = cc
     go false q = in_routine s (routine_of s p f.body f.kernel_phase) f.place c h q
 
+-- a command that a run calls has its range, if the commands of the script have theirs
 pub called_has_range : (s : Script) (limit : ℕ) (e : Event) (past : List Event) (f : ℕ) (c : Command) (y : Reply) → CommandsHaveRange s →
     IsRun s limit (e ∷ past) → e.what ≡ Call f c y → HasRange c
 called_has_range s limit e past f c y h r k =

@@ -10,13 +10,16 @@ use Rattle.nt_line.specs.Rows.{command_row, show_cpu, show_target}
 use Rattle.nt_ranges.proofs.FieldWidths.{NamesAreShort, alertable_width, importance_width, low_width, mode_width, shown, word_width}
 use Rattle.nt_ranges.proofs.Widths.{width}
 
+-- a processor of at most 64 is shown with at most two bytes
 cpu_width : (cpus : ℕ) (p : CpuNo) → cpus ≤ 64 → p.0 < cpus → length (show_cpu p) ≤ 2
 cpu_width cpus p few h = low_width p.0 (omega (arith, few, h))
 
+-- the target of a DPC among at most 64 processors is shown with at most three bytes
 target_width : (cpus : ℕ) (target : Option CpuNo) → cpus ≤ 64 → IfSome target (λ p. p.0 < cpus) → length (show_target target) ≤ 3
 target_width cpus None few h = omega arith
 target_width cpus (Some p) few h = let a = cpu_width cpus p few h in omega (arith, a)
 
+-- a level of at most 15 has at most two decimals
 level_width : (level : ℕ) → level ≤ 15 → length (decimal level) ≤ 2
 level_width level h = low_width level (omega (arith, h))
 

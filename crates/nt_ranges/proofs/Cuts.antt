@@ -13,6 +13,7 @@ use Rattle.nt_event.proofs.Reversed.{count_by-reverse}
 use Rattle.nt_laws.proofs.Counts.{made_limit}
 use Rattle.nt_print.specs.Report.{cut_of, cut_row, made as printed_made}
 
+-- how many events a processor made is the count of the events with its number
 made_counts : (p : ℕ) (past : List Event) → made (cpu p) past ≡ count_by (λ e. e.cpu.0 == p) past
 made_counts p past =
     is_count_by (λ (past : List Event). made (cpu p) past) (λ (e : Event). e.cpu.0 == p) refl
@@ -22,6 +23,7 @@ made_counts p past =
     step true n = omega arith
     step false n = refl
 
+-- a report's count of the events of a processor is the number of events that it made
 pub counts_are_made : (p : ℕ) (events : List Event) → printed_made p events ≡ made (cpu p) (reverse events)
 counts_are_made p events = sym (made_counts p (reverse events) ∙ count_by-reverse (λ (e : Event). e.cpu.0 == p) events)
 
@@ -42,6 +44,7 @@ made_is_cut s h p r =
     let most : made (cpu p) (reverse h.events) ≤ h.turns = made_limit s h.turns (cpu p) (reverse h.events) r in
     ap (λ (n : ℕ). n == h.turns) (counts_are_made p h.events) ∙ at_limit (made (cpu p) (reverse h.events)) h.turns most
 
+-- in a report of a run a processor has a line `cut` exactly if it is cut
 pub cut_lines_name_the_cut : (s : Script) (h : History) (p : ℕ) → IsRun s h.turns (reverse h.events) → cut_of h p
     ≡ (if is_cut h.turns (own_of s (cpu p) (reverse h.events)) then cut_row p ∷ [] else [])
 cut_lines_name_the_cut s h p r = ap (λ (b : Bool). if b then cut_row p ∷ [] else []) (made_is_cut s h p r)

@@ -36,6 +36,7 @@ use Rattle.nt_ranges.proofs.Widths.{one_size, row_most, width, width_both}
 
 -- ---- what an event does
 
+-- the fields of a reply in range have a width of at most 26
 replied_width : (r : Reply) → ReplyInRange r → width (replied r) ≤ 26
 replied_width Done h = omega arith
 replied_width Yes h = omega arith
@@ -46,18 +47,22 @@ replied_width Spin h = omega arith
 replied_width (Refused r) h =
     let both = refusal_widths r in let a = low_width (refusal_number r) both.0 in let b = both.1 in omega (arith, a, b)
 
+-- the fields that tell which event is used have a width of at most 14
 used_width : (from : ℕ) → from ≤ 4294967295 → width (used from) ≤ 14
 used_width from h = let a = word_width from h in omega (arith, a)
 
+-- the word of an APC kind has at most 7 bytes
 kind_word_width : (k : ApcKind) → length (kind_word k) ≤ 7
 kind_word_width kind.Special = omega arith
 kind_word_width kind.Normal = omega arith
 kind_word_width kind.User = omega arith
 
+-- the word of the kind of an APC declaration has at most 7 bytes, also where there is none
 kind_width : (a : Option ApcDecl) → length (kind_of a) ≤ 7
 kind_width None = omega arith
 kind_width (Some a) = kind_word_width a.kind
 
+-- the row of an activity that begins has a width of at most 26, if the names are short
 begun_width : (input : Input) (b : Begun) → NamesAreShort input.names → BegunInRange b → width (begun_row input b) ≤ 26
 begun_width input (begun.Int level) s h = let a = low_width level (omega (arith, h)) in omega (arith, a)
 begun_width input (begun.Dpc d) s h = let a = shown input.names.dpcs d.0 s.dpcs in omega (arith, a)
@@ -65,10 +70,12 @@ begun_width input (begun.Threaded d) s h = let a = shown input.names.dpcs d.0 s.
 begun_width input (begun.Apc x) s h =
     let a = shown input.names.apcs x.0 s.apcs in let k = kind_width (slice_get input.script.apcs x.0) in omega (arith, a, k)
 
+-- the row of a timer key has a width of at most 23, if the names are short
 key_width : (names : NameLists) (k : TimerKey) → NamesAreShort names → width (key_row names k) ≤ 23
 key_width names (key.Timer t) s = let a = shown names.timers t.0 s.timers in omega (arith, a)
 key_width names (key.Delay t) s = let a = shown names.threads t.0 s.threads in omega (arith, a)
 
+-- the row of an optional wait status in range has a width of at most 16
 status_width : (o : Option ℕ) → StatusInRange o → width (status_row o) ≤ 16
 status_width None h = omega arith
 status_width (Some x) h = let a = hexadecimal_width x h in omega (arith, a)
@@ -111,13 +118,16 @@ what_width input Rest s few f h = omega arith
 
 -- ---- its line
 
+-- a processor's field has at most 3 bytes if its number is at most 63
 pub processor_width : (p : ℕ) → p ≤ 63 → length (show_processor p) ≤ 3
 processor_width p h = let a = low_width p (omega (arith, h)) in omega (arith, a)
 
+-- the running thread, or its absence, is shown with at most 16 bytes, if the names are short
 running_width : (names : NameLists) (t : Option ThreadNo) → NamesAreShort names → length (show_running names t) ≤ 16
 running_width names None s = omega arith
 running_width names (Some t) s = shown names.threads t.0 s.threads
 
+-- the row of an event has at most 121 bytes if the names are short and the numbers are in range
 pub line_width : (input : Input) (n : ℕ) (e : Event) → n ≤ 160000 → NamesAreShort input.names → input.script.cpus ≤ 64 → e.cpu.0 ≤ 63 → e.level ≤ 15 →
     CallFits input e.what → WhatInRange input.version e.what → width (event_row input n e) ≤ 121
 line_width input n e early s few p level f h =
@@ -133,6 +143,7 @@ line_width input n e early s few p level f h =
 abbrev pub LookIsLow : What → Type 0
 LookIsLow w = in_look (λ rises. AllByRecursion (λ v. v ≤ 160000) rises.value) (Unit {0}) w
 
+-- a look's field for one class has at most 9 bytes
 rise_width : (class v : ℕ) → class ≤ 15 → v ≤ 160000 → length (rise_field class v) ≤ 9
 rise_width class v h k =
     let a = low_width class (omega (arith, h)) in
@@ -140,6 +151,7 @@ rise_width class v h k =
     let both : length (rise_field class v) ≡ length (decimal class) + suc (length (decimal v)) = length-append (decimal class) (61 ∷ decimal v) in
     omega (arith, a, b, both)
 
+-- the fields of a look have a width of at most 10 for each value
 rises_width : (class : ℕ) (vs : List ℕ) → class + length vs ≤ 16 → AllByRecursion (λ v. v ≤ 160000) vs → width (rises_row class vs) ≤ 10 * length vs
 rises_width class [] few h = omega arith
 rises_width class (v ∷ vs) few h =
@@ -152,12 +164,14 @@ rises_width class (v ∷ vs) few h =
 
 -- ---- its line and that of its turn
 
+-- the line of an event is at most 121 bytes long, if its row has that width
 one_line : (input : Input) (n : ℕ) (e : Event) → width (event_row input n e) ≤ 121 → length (rows_text (event_row input n e ∷ [])) ≤ 121
 one_line input n e h =
     let line = row_most 121 (decimal n) (event_fields input e) h in
     let one = one_size (event_row input n e) in
     omega (arith, line, one)
 
+-- the line of a next turn is at most 8 bytes long
 next_line : (names : NameLists) (p : CpuNo) → p.0 ≤ 63 → length (row_text (turn_row names (Next p))) ≤ 8
 next_line names p h =
     let a = low_width p.0 (omega (arith, h)) in row_most 8 (turn_word (Next p)) (turn_fields names (Next p)) (omega (arith, a))

@@ -53,6 +53,7 @@ one_below level (c ∷ cs) h k =
         let same = eqb-true c level e in let low : c ≤ 15 = grind (arith, nat_tests) in omega (arith, same, low)
     go false e q l more = more q
 
+-- an activity that begins is in range, if the event keeps to the interrupt classes
 begun_low : (b : Begun) (from : ℕ) → keeps_to_classes (Begin b from) ≡ true → BegunInRange b
 begun_low (Int level) from h = one_below level interrupt_classes refl h
 begun_low b from h = tt
@@ -79,6 +80,7 @@ event_low s limit e past f k r = go (is_look e.what) refl
 
 -- ---- statuses
 
+-- a wait status fits in 64 bits
 status_word : (x : ℕ) → IsWaitStatus x → IsWord x
 status_word x h = go (x == satisfied) (x == user_apc) (x == kernel_apc) (x == alerted) refl refl refl refl h
   where
@@ -92,16 +94,19 @@ status_word x h = go (x == satisfied) (x == user_apc) (x == kernel_apc) (x == al
         no : false ≡ true → ⊥
         no e = cc
 
+-- a reply that a wait may give is in range
 reply_in_range : (y : Reply) → ReplyIsOfWait y → ReplyInRange y
 reply_in_range (Status x) h = status_word x h
 reply_in_range y h = tt
 
+-- an optional wait status is in range
 status_in_range : (o : Option ℕ) → IfSome o IsWaitStatus → StatusInRange o
 status_in_range None h = tt
 status_in_range (Some x) h = status_word x h
 
 -- ---- what an event does
 
+-- what the last event of a run does is in range
 what_in_range : (version : ℕ) (s : Script) (limit : ℕ) (e : Event) (past : List Event) → MayNameLocks version s → AllFit s (e ∷ past) → KeepsLevels e.what →
     length past ≤ EVENTS → LookIsWhole e.what → IsRun s limit (e ∷ past) → (w : What) → e.what ≡ w → WhatInRange version w
 what_in_range version s limit e past may all low few whole r w eq = go w eq
@@ -155,10 +160,12 @@ what_in_range version s limit e past may all low few whole r w eq = go w eq
     go (Free n l) k = word (Free n l) n k refl
     go Rest k = tt
 
+-- an event is a bare look if looks have no thread and the level 0
 look_is_bare : (e : Event) (w : What) → (is_look w ≡ true → (e.thread ≡ None) × (e.level ≡ 0)) → LookIsBare e w
 look_is_bare e (Look x) h = h refl
 look_is_bare e w h = tt
 
+-- all events of a run are plain, under the premises on its script, its length and its looks
 all_plain : (input : Input) (limit : ℕ) (past : List Event) → MayNameLocks input.version input.script → AllFit input.script past →
     AllKeepLevels past → length past ≤ EVENTS → AllByRecursion (λ e. LookIsWhole e.what) past → IsRun input.script limit past →
     AllByRecursion (EventIsPlain input) past

@@ -34,15 +34,18 @@ pub record NamesAreShort (names : NameLists) : Type 0 where
   pub locks : AllByRecursion IsShort names.locks
   pub routines : AllByRecursion IsShort names.routines
 
+-- a name is short
 short : (n : List ℕ) → is_name n ≡ true → IsShort n
 short n h =
     let all = and_parts (not (length n == 0) && nat_le (length n) 16) (list_all is_name_byte n) h in
     leb-true (length n) 16 (and_parts (not (length n == 0)) (nat_le (length n) 16) all.0).1
 
+-- each of a list of new names is short
 new_short : (before ns : List (List ℕ)) → AreNew before ns → AllByRecursion IsShort ns
 new_short before [] h = tt
 new_short before (n ∷ ns) h = (short n h.0, new_short (before ++ n ∷ []) ns h.2)
 
+-- the names of a sound input are short
 pub names_short : (input : Input) → IsSound input → NamesAreShort input.names
 names_short input sound =
     let names = input.names in
@@ -99,20 +102,24 @@ hexadecimal_width n h = let most = onto_width 7 64 n [] (omega (arith, h)) in om
 
 -- ---- words
 
+-- the word of an importance has at most 10 bytes
 pub importance_width : (i : Importance) → length (importance_text i) ≤ 10
 importance_width Low = omega arith
 importance_width Medium = omega arith
 importance_width MediumHigh = omega arith
 importance_width High = omega arith
 
+-- the word of a mode has at most 6 bytes
 pub mode_width : (m : Mode) → length (mode_text m) ≤ 6
 mode_width Kernel = omega arith
 mode_width User = omega arith
 
+-- the word for alertable or not has at most 9 bytes
 pub alertable_width : (a : Bool) → length (alertable_text a) ≤ 9
 alertable_width true = omega arith
 alertable_width false = omega arith
 
+-- the word for on or off has at most 3 bytes
 pub on_off_width : (on : Bool) → length (on_off_text on) ≤ 3
 on_off_width true = omega arith
 on_off_width false = omega arith

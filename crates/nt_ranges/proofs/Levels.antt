@@ -59,17 +59,20 @@ AreLow fs = AllByRecursion IsLow fs
 
 -- ---- what an event does to a frame
 
+-- a command that is done leaves the level of a frame at most 15
 done_low : (c : Command) (f : Frame) → HasRange c → f.level ≤ 15 → (done_to c f).level ≤ 15
 done_low (Raise level) f h k = h
 done_low (Lower level) f h k = h
 done_low c f h k = k
 
+-- the effect of a command with its reply leaves the level of a frame at most 15
 effect_low : (due : Option ℕ) (c : Command) (y : Reply) (f : Frame) → HasRange c → f.level ≤ 15 → (effect due c y f).level ≤ 15
 effect_low due (StartWait m a) y f h k = k
 effect_low due (Delay m a units) y f h k = k
 effect_low due c Done f h k = done_low c f h k
 effect_low due c y f h k = k
 
+-- the level that is kept in a low frame is at most 15
 kept_low : (f : Frame) → IsLow f → kept_in f ≤ 15
 kept_low f h = go f.spin h.1
   where
@@ -77,6 +80,7 @@ kept_low f h = go f.spin h.1
     go None k = h.0
     go (Some x) k = k
 
+-- the level to which freeing a lock returns a low frame is at most 15
 freed_level_low : (f : Frame) → IsLow f → freed_level f ≤ 15
 freed_level_low f h = go f.held h.2
   where
@@ -84,6 +88,7 @@ freed_level_low f h = go f.held h.2
     go [] k = h.0
     go (x ∷ hs) k = k.0
 
+-- leaving out the first held lock leaves the kept levels at most 15
 tail_low : (hs : List Held) → AllByRecursion KeptLow hs → AllByRecursion KeptLow (tail_of hs)
 tail_low [] h = tt
 tail_low (x ∷ hs) h = h.1
@@ -96,18 +101,22 @@ moved_low (Spins k) f level h l = (omega arith, kept_low f h, h.2)
 moved_low (Frees k) f level h l = (freed_level_low f h, tt, tail_low f.held h.2)
 moved_low NoMove f level h l = (l, tt, h.2)
 
+-- a call with a command in range leaves a low frame low
 called_low : (due : Option ℕ) (c : Command) (y : Reply) (f : Frame) → HasRange c → IsLow f → IsLow (called due c y f)
 called_low due c y f h k = moved_low (call_move c y) f (effect due c y f).level k (effect_low due c y f h k.0)
 
+-- freeing a lock leaves a low frame low
 freed_low : (f : Frame) → IsLow f → IsLow (freed f)
 freed_low f h = (freed_level_low f h, h.1, tail_low f.held h.2)
 
+-- resuming with a status leaves a low frame low
 resumed_low : (status : Option ℕ) (f : Frame) → IsLow f → IsLow (resumed status f)
 resumed_low None f h = h
 resumed_low (Some x) f h = h
 
 -- ---- and to a part
 
+-- a change that keeps frames low, made at the frames of one name, leaves all frames low
 named_low : (n : ℕ) (g : Frame → Frame) (fs : List Frame) → ((f : Frame) → IsLow f → IsLow (g f)) → AreLow fs → AreLow (at_name n g fs)
 named_low n g [] i h = h
 named_low n g (f ∷ fs) i h = (go (f.name == n), h.1)
@@ -116,6 +125,7 @@ named_low n g (f ∷ fs) i h = (go (f.name == n), h.1)
     go true = i f h.0
     go false = h.0
 
+-- taking out the frames of one name leaves the others low
 without_low : (n : ℕ) (fs : List Frame) → AreLow fs → AreLow (without n fs)
 without_low n [] h = h
 without_low n (f ∷ fs) h = go (f.name == n)
@@ -124,6 +134,7 @@ without_low n (f ∷ fs) h = go (f.name == n)
     go true = h.1
     go false = h
 
+-- ending an activity on a thread leaves the frames low
 end_low : (n : ℕ) (fs : List Frame) → AreLow fs → AreLow (end_on_thread n fs)
 end_low n [] h = h
 end_low n (f ∷ fs) h = go (f.name == n) (is_base_body f.body)
@@ -133,14 +144,17 @@ end_low n (f ∷ fs) h = go (f.name == n) (is_base_body f.body)
     go true false = h.1
     go false c = h
 
+-- flushing an APC, which may put a frame in, leaves the frames low
 flushed_low : (n : ℕ) (a : ApcNo) (r : Option RoutineNo) (fs : List Frame) → AreLow fs → AreLow (flushed n a r fs)
 flushed_low n a None fs h = h
 flushed_low n a (Some r) fs h = ((omega arith, tt, tt), h)
 
+-- switching to a thread leaves the frames low
 switched_low : (n : ℕ) (t : ThreadNo) (status : Option ℕ) (fs : List Frame) → AreLow fs → AreLow (switched_to n t status fs)
 switched_low n t status [] h = ((omega arith, tt, tt), tt)
 switched_low n t status (f ∷ fs) h = (resumed_low status f h.0, h.1)
 
+-- an event that keeps levels leaves a processor's own frames low
 own_low : (n : ℕ) (due : Option ℕ) (w : What) (fs : List Frame) → KeepsLevels w → AreLow fs → AreLow (own_after n due w fs)
 own_low n due (Begin (Int level) from) fs h k = ((h, tt, tt), k)
 own_low n due (Begin (Dpc d) from) fs h k = ((omega arith, tt, tt), k)
@@ -151,6 +165,7 @@ own_low n due (End f) fs h k = without_low f fs k
 own_low n due (Free f l) fs h k = named_low f freed fs freed_low k
 own_low n due w fs h k = k
 
+-- an event that keeps levels leaves a thread's frames low
 thread_low : (s : Script) (n : ℕ) (due : Option ℕ) (w : What) (fs : List Frame) → KeepsLevels w → AreLow fs → AreLow (thread_after s n due w fs)
 thread_low s n due (Switch t status) fs h k = switched_low n t status fs k
 thread_low s n due (Begin (Apc a) from) fs h k = ((omega arith, tt, tt), k)
@@ -168,6 +183,7 @@ thread_low s n due w fs h k = k
 abbrev pub AllKeepLevels : List Event → Type 0
 AllKeepLevels past = AllByRecursion (λ e. KeepsLevels e.what) past
 
+-- a processor's own frames are low, if all events of the history keep levels
 own_frames_low : (p : CpuNo) (past : List Event) → AllKeepLevels past → AreLow (own_frames p past)
 own_frames_low p [] h = tt
 own_frames_low p (e ∷ past) h = go (is_of e p) (own_frames_low p past h.1)
@@ -177,6 +193,7 @@ own_frames_low p (e ∷ past) h = go (is_of e p) (own_frames_low p past h.1)
     go true k = own_low (length past) (due_of e.what (time past)) e.what (own_frames p past) h.0 k
     go false k = k
 
+-- a thread's frames are low, if all events of the history keep levels
 thread_frames_low : (s : Script) (p : CpuNo) (t : ThreadNo) (past : List Event) → AllKeepLevels past → AreLow (thread_frames s p t past)
 thread_frames_low s p t [] h = tt
 thread_frames_low s p t (e ∷ past) h = go (is_of e p) (is_by e t) (thread_frames_low s p t past h.1)
@@ -187,6 +204,7 @@ thread_frames_low s p t (e ∷ past) h = go (is_of e p) (is_by e t) (thread_fram
     go true false k = k
     go false c k = k
 
+-- the level of the innermost frame, or 0 where there is none, is at most 15, if all frames are low
 head_low : (own part : List Frame) → AreLow own → AreLow part → option_map_or (λ f. f.level) (option_or (head_of own) (head_of part)) 0 ≤ 15
 head_low [] [] h k = omega arith
 head_low [] (f ∷ fs) h k = k.0.0

@@ -16,10 +16,12 @@ use Rattle.nt_laws.specs.Named.{AllFit}
 use Rattle.nt_log.specs.Schedules.{is_written_class, rise_in_classes}
 use Rattle.nt_ranges.proofs.Asked.{of_asked}
 
+-- or with true on the right is true
 or_true : (b : Bool) → (b || true) ≡ true
 or_true true = refl
 or_true false = refl
 
+-- a level at which an interrupt can be requested is a class that a text may name
 requested_written : (version level : ℕ) → is_requested_level level ≡ true → is_written_class version level ≡ true
 requested_written version level h =
     elim (or_cases (nat_le 3 level && nat_le level 11) (level == 14) h) as (λ e. is_written_class version level ≡ true) [

@@ -34,6 +34,7 @@ use Rattle.nt_ranges.proofs.Widths.{mapped_most, one_size, row_most, size_both, 
 
 -- ---- the lines of events and of their turns
 
+-- a call that fits the script and is in range has a command that fits and a reply in range
 call_fits : (input : Input) (w : What) → IsSound input → what_fits input.script w ≡ true → WhatInRange input.version w → CallFits input w
 call_fits input (Call frame c r) sound k h =
     command_from input.script input.names (record {
@@ -46,6 +47,7 @@ call_fits input (Call frame c r) sound k h =
     }) c k h.1
 call_fits input w sound k h = tt
 
+-- the line of an event and that of its turn have at most 168 bytes together
 event_lines : (input : Input) (n : ℕ) (e : Event) → IsSound input → n ≤ 160000 → EventIsPlain input e → LookIsLow e.what →
     length (rows_text (line_rows input n e e.what)) + length (row_text (turn_row input.names (turn_of e))) ≤ 168
 event_lines input n e sound early h low =
@@ -75,6 +77,7 @@ events_size input n (e ∷ es) sound early h low =
 
 -- ---- those of processors
 
+-- the line of one processor that is cut, where there is one, has at most 8 bytes
 cut_one : (b : Bool) (p : ℕ) → p ≤ 63 → length (rows_text (if b then cut_row p ∷ [] else [])) ≤ 8
 cut_one false p h = omega arith
 cut_one true p h =
@@ -83,6 +86,7 @@ cut_one true p h =
     let one = one_size (cut_row p) in
     omega (arith, line, one)
 
+-- the lines of the cut processors have at most 8 bytes for each processor
 cut_size : (h : History) (p n : ℕ) → p + n ≤ 64 → length (rows_text (cut_rows h p n)) ≤ 8 * n
 cut_size h p zero few = omega arith
 cut_size h p (suc n) few =
@@ -91,6 +95,7 @@ cut_size h p (suc n) few =
     let more = cut_size h (p + 1) n (omega (arith, few)) in
     omega (arith, parts, one, more)
 
+-- the line of one processor's spin, where there is one, has at most 37 bytes
 spin_one : (names : NameLists) (s : Script) (many p : ℕ) (o : Option Spun) → NamesAreShort names → many ≤ 160000 → SpinIsPlain s many o → p ≤ 63 →
     length (rows_text (spin_of names p o)) ≤ 37
 spin_one names s many p None short few plain h = omega arith
@@ -103,6 +108,7 @@ spin_one names s many p (Some x) short few plain h =
     let one = one_size (spin_row names p x) in
     omega (arith, line, one)
 
+-- the lines of the spinning processors have at most 37 bytes for each processor
 spin_size : (names : NameLists) (s : Script) (h : History) (p n : ℕ) → NamesAreShort names → length h.events ≤ 160000 → events_fit s h.events ≡ true →
     p + n ≤ 64 → length (rows_text (spin_rows names h p n)) ≤ 37 * n
 spin_size names s h p zero short few fit low = omega arith
@@ -117,10 +123,12 @@ spin_size names s h p (suc n) short few fit low =
 abbrev IsEarly : Inserted → Type 0
 IsEarly i = i.number ≤ 160000
 
+-- the inserts of two lists put together have numbers of at most 160000, if those of both have
 early_more : (a b : List Inserted) → AllByRecursion IsEarly a → AllByRecursion IsEarly b → AllByRecursion IsEarly (a ++ b)
 early_more [] b h k = k
 early_more (x ∷ a) b h k = (h.0, early_more a b h.1 k)
 
+-- the inserts of at most 160000 events have numbers of at most 160000
 inserts_early : (past : List Event) → length past ≤ 160000 → AllByRecursion IsEarly (inserts past)
 inserts_early [] few = tt
 inserts_early (e ∷ past) few =
@@ -130,6 +138,7 @@ inserts_early (e ∷ past) few =
     go None = tt
     go (Some thing) = (omega (arith, few), tt)
 
+-- a history has at most as many inserts as events
 inserts_few : (past : List Event) → length (inserts past) ≤ length past
 inserts_few [] = omega arith
 inserts_few (e ∷ past) =
@@ -142,6 +151,7 @@ inserts_few (e ∷ past) =
     go None = omega arith
     go (Some thing) = omega arith
 
+-- filtering a list makes it no longer
 filter_few : {X : Type 0} (p : X → Bool) (xs : List X) → length (filter p xs) ≤ length xs
 filter_few p [] = omega arith
 filter_few p (x ∷ xs) = go (p x) (filter_few p xs)
@@ -150,6 +160,7 @@ filter_few p (x ∷ xs) = go (p x) (filter_few p xs)
     go true h = omega (arith, h)
     go false h = omega (arith, h)
 
+-- the line of one waiting insert has at most 34 bytes
 wait_line : (names : NameLists) (i : Inserted) → NamesAreShort names → i.number ≤ 160000 → length (row_text (wait_row names i)) ≤ 34
 wait_line names i short h =
     let a = event_width i.number h in
@@ -160,6 +171,7 @@ wait_line names i short h =
     thing_width (DpcThing d) = let n = shown names.dpcs d.0 short.dpcs in omega (arith, n)
     thing_width (ApcThing a) = let n = shown names.apcs a.0 short.apcs in omega (arith, n)
 
+-- the lines of the waiting inserts have at most 34 bytes for each event
 waits_size : (names : NameLists) (past : List Event) → NamesAreShort names → length past ≤ 160000 → length (rows_text (wait_rows names past)) ≤ 34 * length past
 waits_size names past short few =
     let waits = λ (x : Inserted). still_waits (fate_of x.thing x.number past) in
@@ -171,6 +183,7 @@ waits_size names past short few =
 
 -- ---- the schedule
 
+-- a turn limit that is at most the bound for its processors is at most 160000
 limit_low : (cpus turns : ℕ) → turns ≤ turn_bound cpus → turns ≤ 160000
 limit_low cpus turns h = go (nat_le cpus 8) h
   where
@@ -178,6 +191,7 @@ limit_low cpus turns h = go (nat_le cpus 8) h
     go true h = omega (arith, h)
     go false h = omega (arith, h)
 
+-- the schedule of a history has at most 21 bytes more than the lines of its turns
 turns_size : (input : Input) (h : History) → h.turns ≤ turn_bound input.script.cpus →
     length (schedule_text input (schedule_of h)) ≤ 21 + length (rows_text (turn_lines input.names h.events))
 turns_size input h low =
@@ -192,6 +206,7 @@ turns_size input h low =
 
 -- ---- the whole
 
+-- the report of a plain history with low looks has at most 32500000 bytes, its schedule part no more
 pub report_size : (input : Input) (h : History) → IsSound input → HistoryIsPlain input h → AllByRecursion (λ e. LookIsLow e.what) h.events →
     (length (report_text input h) ≤ 32500000) × (length (schedule_text input (schedule_of h)) ≤ length (report_text input h))
 report_size input h sound plain low =

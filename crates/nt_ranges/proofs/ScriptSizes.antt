@@ -38,6 +38,7 @@ use Rattle.nt_ranges.proofs.Widths.{declared_most, mapped_most, one_size, row_mo
 
 -- ---- the header
 
+-- the line of the version, where there is one, has at most 11 bytes
 version_size : (version : ℕ) → version ≤ 2 → length (rows_text (version_rows version)) ≤ 11
 version_size version h = go (nat_le 2 version)
   where
@@ -49,6 +50,7 @@ version_size version h = go (nat_le 2 version)
         let one = one_size (number_row keyword.Version version) in
         omega (arith, line, one)
 
+-- the line of the queue depth, where there is one, has at most 17 bytes
 depth_size : (depth : Option ℕ) → IfSome depth (λ n. n ≤ 256) → length (rows_text (depth_rows depth)) ≤ 17
 depth_size None h = omega arith
 depth_size (Some n) h =
@@ -57,6 +59,7 @@ depth_size (Some n) h =
     let one = one_size (number_row keyword.Depth n) in
     omega (arith, line, one)
 
+-- the line that tells whether DPCs are threaded, where there is one, has at most 13 bytes
 threaded_size : (threaded : Option Bool) → length (rows_text (threaded_rows threaded)) ≤ 13
 threaded_size None = omega arith
 threaded_size (Some on) =
@@ -65,6 +68,7 @@ threaded_size (Some on) =
     let one = one_size (text_of keyword.Threaded ∷ on_off_text on ∷ []) in
     omega (arith, line, one)
 
+-- the lines before the first declaration of a script have at most 49 bytes
 header_size : (input : Input) → Fit input → length (rows_text (header_rows input.version input.script.cpus input.script.depth input.script.threaded)) ≤ 49
 header_size input f =
     let s = input.script in
@@ -89,10 +93,12 @@ abbrev places : List Isr → List ℕ
 places [] = []
 places (isr ∷ more) = place_of isr ∷ places more
 
+-- interrupt routines have as many places as there are of them
 length-places : (isrs : List Isr) → length (places isrs) ≡ length isrs
 length-places [] = refl
 length-places (isr ∷ more) = let rest = length-places more in omega (arith, rest)
 
+-- an interrupt routine whose processor and level no later one has stands at another place than each of them
 apart : (names : NameLists) (cpus : ℕ) (isr : Isr) (more : List Isr) → isr.level ≤ 15 → AllByRecursion (IsrFits names cpus) more →
     stands_in more isr.cpu isr.level ≡ false → AllByRecursion (λ y. eqb (place_of isr) y ≡ false) (places more)
 apart names cpus isr [] low h k = tt
@@ -106,6 +112,7 @@ apart names cpus isr (x ∷ more) low h k =
     go false b p q e same =
         let other = eqb-false x.cpu.0 isr.cpu.0 p in let level = h.0.1 in other (omega (arith, level, low, same))
 
+-- the places of interrupt routines that differ are distinct
 distinct : (names : NameLists) (cpus : ℕ) (isrs : List Isr) → AllByRecursion (IsrFits names cpus) isrs → isrs_differ isrs ≡ true → IsDistinct eqb (places isrs)
 unfolding IsDistinct
 distinct names cpus [] h k = tt
@@ -117,6 +124,7 @@ distinct names cpus (isr ∷ more) h k =
     none true e = cc
     none false e = refl
 
+-- each place of an interrupt routine is below 1024, if there are at most 64 processors
 below : (names : NameLists) (cpus : ℕ) (isrs : List Isr) → cpus ≤ 64 → AllByRecursion (IsrFits names cpus) isrs → (q : ℕ) →
     list_any (eqb q) (places isrs) ≡ true → q < 1024
 below names cpus [] few h q e = absurd (false≢true e)
@@ -126,6 +134,7 @@ below names cpus (isr ∷ more) few h q e =
       | inr later ↦ below names cpus more few h.1 q later
     ]
 
+-- a script that fits has at most 1024 interrupt routines
 isrs_few : (input : Input) → Fit input → length input.script.isrs ≤ 1024
 isrs_few input f =
     let isrs = input.script.isrs in
@@ -134,6 +143,7 @@ isrs_few input f =
     let same = length-places isrs in
     omega (arith, most, same)
 
+-- the line of an interrupt routine has at most 27 bytes
 isr_line : (names : NameLists) (cpus : ℕ) (isr : Isr) → NamesAreShort names → cpus ≤ 64 → IsrFits names cpus isr → length (row_text (isr_row names isr)) ≤ 27
 isr_line names cpus isr s few h =
     let p = h.0 in
@@ -145,16 +155,19 @@ isr_line names cpus isr s few h =
 
 -- ---- things with their names
 
+-- the keyword of a DPC, threaded or not, has at most 4 bytes
 dpc_word : (threaded : Bool) → length (text_of (keyword.Dpc threaded)) ≤ 4
 dpc_word true = omega arith
 dpc_word false = omega arith
 
+-- the line of a DPC has at most 39 bytes
 dpc_line : (names : NameLists) (n : List ℕ) (d : DpcDecl) → NamesAreShort names → IsShort n → length (row_text (dpc_row names n d)) ≤ 39
 dpc_line names n d s h =
     let a = dpc_word d.threaded in
     let b = shown names.routines d.routine.0 s.routines in
     row_most 39 (text_of (keyword.Dpc d.threaded)) (n ∷ dpc_args names d) (omega (arith, a, b, h))
 
+-- the line of a timer has at most 40 bytes
 timer_line : (names : NameLists) (n : List ℕ) (t : TimerDecl) → NamesAreShort names → IsShort n → length (row_text (timer_row names n t)) ≤ 40
 timer_line names n t s h =
     let a = go t.dpc in row_most 40 (text_of keyword.Timer) (n ∷ timer_args names t) (omega (arith, a, h))
@@ -163,6 +176,7 @@ timer_line names n t s h =
     go None = omega arith
     go (Some d) = shown names.dpcs d.0 s.dpcs
 
+-- the line of a thread has at most 44 bytes
 thread_line : (names : NameLists) (cpus : ℕ) (n : List ℕ) (t : ThreadDecl) → NamesAreShort names → cpus ≤ 64 → IsShort n → ThreadFits names cpus t →
     length (row_text (thread_row names n t)) ≤ 44
 thread_line names cpus n t s few h f =
@@ -171,11 +185,13 @@ thread_line names cpus n t s few h f =
     let b = shown names.routines t.routine.0 s.routines in
     row_most 44 (text_of keyword.Thread) (n ∷ thread_args names t) (omega (arith, a, b, h))
 
+-- the keyword of an APC has at most 7 bytes
 apc_word : (k : ApcKind) → length (text_of (keyword.Apc k)) ≤ 7
 apc_word Special = omega arith
 apc_word Normal = omega arith
 apc_word User = omega arith
 
+-- the line of an APC has at most 93 bytes
 apc_line : (names : NameLists) (n : List ℕ) (a : ApcDecl) → NamesAreShort names → IsShort n → length (row_text (apc_row names n a)) ≤ 93
 apc_line names n a s h =
     let w = apc_word a.kind in
@@ -199,17 +215,20 @@ apc_line names n a s h =
     rundown Normal o = omega arith
     rundown User o = let n = shown_or_dash o in omega (arith, n)
 
+-- the line of a spin lock has at most 26 bytes
 lock_line : (n : List ℕ) → IsShort n → length (row_text (lock_row n)) ≤ 26
 lock_line n h = row_most 26 (text_of keyword.Spinlock) (n ∷ []) (omega (arith, h))
 
 -- ---- routines
 
+-- the lines of commands have at most 48 bytes for each command
 commands_size : (names : NameLists) (cpus : ℕ) (cs : List Command) → NamesAreShort names → cpus ≤ 64 → AllByRecursion (CommandFits names cpus) cs →
     length (rows_text (map (command_row names) cs)) ≤ 48 * length cs
 commands_size names cpus cs s few h =
     mapped_most (CommandFits names cpus) (command_row names) 48
     (λ c f. row_most 48 (text_of (keyword.Call (command_verb c))) (command_args names c) (command_width names cpus c s few f)) cs h
 
+-- the lines of a routine have at most 30 bytes and 48 for each command
 routine_size : (names : NameLists) (cpus : ℕ) (n : List ℕ) (r : Routine) → NamesAreShort names → cpus ≤ 64 → IsShort n →
     AllByRecursion (CommandFits names cpus) r.commands → length (rows_text (begun_rows names n r.commands ++ exit_row ∷ [])) ≤ 30 + 48 * length r.commands
 routine_size names cpus n r s few h f =
@@ -222,6 +241,7 @@ routine_size names cpus n r s few h f =
     let head = size_cons begun (map (command_row names) r.commands) in
     omega (arith, first, last, end, commands, parts, head)
 
+-- the lines of all routines have at most 30 bytes for each routine and 48 for each command
 routines_size : (names : NameLists) (cpus : ℕ) (ns : List (List ℕ)) (rs : List Routine) → NamesAreShort names → cpus ≤ 64 → AllByRecursion IsShort ns →
     AllByRecursion (λ r. AllByRecursion (CommandFits names cpus) r.commands) rs →
     length (rows_text (routine_rows names ns rs)) ≤ 30 * length rs + 48 * command_count rs
@@ -236,6 +256,7 @@ routines_size names cpus (n ∷ ns) (r ∷ rs) s few h f =
 
 -- ---- the whole
 
+-- the text of a sound input has at most 500000 bytes
 pub script_size : (input : Input) → IsSound input → length (text input) ≤ 500000
 script_size input sound =
     let names = input.names in

@@ -39,6 +39,7 @@ looks_low s limit (e ∷ past) few r = (go e.what refl, looks_low s limit past (
         (rises_below s e.cpu 0 x.value (own_of s e.cpu past) past rise)
     go w k = tt
 
+-- the script of a run followed by its report or by its schedule is short enough for an input
 pub texts_fit_the_input : (input : Input) (h : History) → IsRunOf input h → FitsTheInput input h
 texts_fit_the_input input h r =
     let few = few_events input h r in

@@ -45,6 +45,7 @@ use Rattle.nt_ranges.proofs.Cuts.{made_is_cut}
 abbrev LastOn : CpuNo → LockNo → List Event → Type 0
 LastOn p k past = (n : ℕ) × (last_spin p past ≡ Some (record { number = n; lock = k }))
 
+-- an action that makes a processor spin on a lock is a call of acquire on that lock with reply spin
 spin_call : (w : What) (x : LockNo) → lock_move w ≡ Spins x → (f : ℕ) × (w ≡ Call f (Acquire x) Spinning)
 spin_call (Call f (Acquire y) Spinning) x m = let same : y ≡ x = cc in (f, ap (λ (z : LockNo). Call f (Acquire z) Spinning) same)
 spin_call (Call f (Acquire y) Done) x m = absurd cc
@@ -85,6 +86,7 @@ gets_no_more s p q k x old below h = go (x.0 == k.0) h
     go true e = at (p.0 == q.0) (sym (spins_with s p q false old.spinners below) ∙ e)
     go false e = e
 
+-- a processor that spins on a lock after another move frees one spun on it before
 frees_no_more : (s : Script) (p q : CpuNo) (k x : LockNo) (old : LockState) → spins_at (lock_moved s k q (Frees x) old) p ≡ true → spins_at old p ≡ true
 frees_no_more s p q k x old h = go (x.0 == k.0) h
   where
@@ -130,6 +132,7 @@ record Waits (s : Script) (p : CpuNo) (past : List Event) : Type 0 where
   last : last_spin p past ≡ Some spin
   on : some_frame (spins_lock spin.lock) s p past ≡ true
 
+-- in a run a processor that waits for a lock spins on the lock for which it tried last
 waits : (s : Script) (limit : ℕ) (p : CpuNo) (past : List Event) → fits s ≡ true → IsRun s limit past → p.0 < s.cpus →
     waits_for_lock (own_of s p past) ≡ true → Waits s p past
 waits s limit p past fit r below w = go sp.frame.spin refl sp.spins
@@ -224,10 +227,12 @@ module _ (s : Script) (h : History) (p : ℕ) (is : IsSettled s h) (below : p < 
               let same : w.spin ≡ x = some_one w.spin x (sym w.last ∙ sym (left false false i (unrested i still)) ∙ e) in
               subst (λ (y : Spun). some_frame (spins_lock y.lock) s (cpu p) past ≡ true) same w.on
 
+-- in a settled run a spin is left at a processor exactly if the processor is not cut and spins still
 pub spins_lines_name_the_spinners : (s : Script) (h : History) (p : ℕ) → IsSettled s h → p < s.cpus → is_some (spin_left h p)
     ≡ (not (is_cut h.turns (own_of s (cpu p) (reverse h.events))) && spins_still (own_of s (cpu p) (reverse h.events)))
 spins_lines_name_the_spinners s h p is below = named s h p is below
 
+-- in a settled run the lock of a processor's line `spins` is one on which a frame of it spins
 pub spins_lines_name_the_locks : (s : Script) (h : History) (p : ℕ) (x : Spun) → IsSettled s h → p < s.cpus → spin_left h p ≡ Some x →
     some_frame (spins_lock x.lock) s (cpu p) (reverse h.events) ≡ true
 spins_lines_name_the_locks s h p x is below e = locked s h p is below x e

@@ -53,14 +53,17 @@ use Rattle.nt_ranges.proofs.Lists.{of_table}
 abbrev Carries : ThreadFacts → Type 0
 Carries x = IfSome (ended_status x) IsWaitStatus
 
+-- of two thread states that carry a wait's status only, the one chosen does too
 either : (b : Bool) (x y : ThreadFacts) → Carries x → Carries y → Carries (if b then x else y)
 either true x y h k = h
 either false x y h k = k
 
+-- setting an alerted flag leaves a thread's status one of a wait
 set_carries : (m : Mode) (b : Bool) (x : ThreadFacts) → Carries x → Carries (set_alerted m b x)
 set_carries KernelMode b x h = h
 set_carries UserMode b x h = h
 
+-- answering a wait leaves a thread's status one of a wait
 answered_carries : (st : ℕ) (m : Mode) (a delay : Bool) (x : ThreadFacts) → Carries x → Carries (answered st m a delay x)
 answered_carries st m a delay x h = go (st == satisfied) delay (st == alerted) ((st == user_apc) && a)
   where
@@ -72,16 +75,19 @@ answered_carries st m a delay x h = go (st == satisfied) delay (st == alerted) (
     go false d false true = h
     go false d false false = h
 
+-- beginning a wait or answering it leaves a thread's status one of a wait
 waited_carries : (n : ℕ) (r : Regions) (level : ℕ) (m : Mode) (a delay : Bool) (y : Reply) (x : ThreadFacts) → Carries x →
     Carries (waited n r level m a delay y x)
 waited_carries n r level m a delay (Status st) x h = answered_carries st m a delay x h
 waited_carries n r level m a delay Blocked x h = tt
 waited_carries n r level m a delay y x h = h
 
+-- going on with an interrupted wait leaves a thread's status one of a wait
 again_carries : (n : ℕ) (r : Regions) (level : ℕ) (o : Option Again) (y : Reply) (x : ThreadFacts) → Carries x → Carries (waited_again n r level o y x)
 again_carries n r level None y x h = h
 again_carries n r level (Some w) y x h = waited_carries n r level w.mode w.alertable (is_some w.due) y x h
 
+-- testing for an alert leaves a thread's status one of a wait
 tested_carries : (m : Mode) (x : ThreadFacts) → Carries x → Carries (alert_tested m x)
 tested_carries m x h = go (is_alerted m x) (is_user m && has_user x.apcs)
   where
@@ -90,15 +96,18 @@ tested_carries m x h = go (is_alerted m x) (is_user m && has_user x.apcs)
     go false true = h
     go false false = h
 
+-- taking an APC out of a queue to run it leaves a thread's status one of a wait
 taken_carries : (k : ApcKind) (a : ApcNo) (x : ThreadFacts) → Carries x → Carries (apc_taken k a x)
 taken_carries UserApc a x h = h
 taken_carries k a x h = h
 
+-- ending a frame leaves a thread's status one of a wait
 frame_carries : (b : Option Body) (x : ThreadFacts) → Carries x → Carries (frame_ended b x)
 frame_carries (Some (OnApc a UserApc)) x h = tested_carries UserMode x h
 frame_carries (Some (OnBase t)) x h = h
 frame_carries b x h = h
 
+-- an event that a thread makes itself leaves its status one of a wait
 made_carries : (s : Script) (n : ℕ) (st : Stand) (w : What) (x : ThreadFacts) → Carries x → Carries (made_facts s n st w x)
 made_carries s n st (Switch t status) x h = tt
 made_carries s n st (Call f (cmd.StartWait m a) y) x h = waited_carries n st.regions st.level m a false y x h
@@ -111,22 +120,27 @@ made_carries s n st (End f) x h = frame_carries st.body x h
 made_carries s n st (Gone t) x h = tt
 made_carries s n st w x h = h
 
+-- a release ends a wait with the status of a wait, or leaves the status
 release_carries : (x : ThreadFacts) → Carries x → Carries (release_facts x)
 release_carries x h =
     either (ends_by_release x) (ended satisfied x) _ refl (either (is_gone x) x (record x { released = true }) h h)
 
+-- an alert ends a wait with the status of a wait, or leaves the status
 alert_carries : (m : Mode) (x : ThreadFacts) → Carries x → Carries (alert_facts m x)
 alert_carries m x h =
     either (is_gone x) x _ h (either (ends_by_alert m x) (ended alerted x) (set_alerted m true x) refl (set_carries m true x h))
 
+-- an APC that is inserted ends a wait with the status of a wait, or leaves the status
 insert_carries : (pick : Pick) (x : ThreadFacts) → Carries x → Carries (insert_facts pick x)
 insert_carries pick x h =
     let y : ThreadFacts = record x { apcs = with_apc pick x.apcs } in
     either (ends_by_apc pick x) _ y (either (is_kernel_kind pick.kind) (ended kernel_apc y) (record (ended user_apc y) { user_pending = true }) refl refl) h
 
+-- an expiry ends a wait with the status of a wait, or leaves the status
 expiry_carries : (from : ℕ) (x : ThreadFacts) → Carries x → Carries (expiry_facts from x)
 expiry_carries from x h = either (ends_by_expiry from x) (ended satisfied x) x refl h
 
+-- an event that names a thread leaves its status one of a wait
 named_carries : (s : Script) (t : ThreadNo) (n : ℕ) (w : What) (x : ThreadFacts) → Carries x → Carries (named_facts s t n w x)
 named_carries s t n (Call f (cmd.Release u) y) x h = either (is_answer y && (u.0 == t.0)) (release_facts x) x (release_carries x h) h
 named_carries s t n (Call f (cmd.Alert u m) y) x h = either (is_answer y && (u.0 == t.0)) (alert_facts m x) x (alert_carries m x h) h
@@ -145,12 +159,14 @@ facts_carry s t (e ∷ past) =
     named_carries s t (length past) e.what (if is_of_thread s t e then made else facts s t past)
     (either (is_of_thread s t e) made (facts s t past) (made_carries s (length past) (stand_at s e.cpu past) e.what (facts s t past) old) old)
 
+-- the status of a thread in the lanes of a history is one of a wait
 lanes_carry : (s : Script) (t : ThreadNo) (past : List Event) → Carries (facts_at (lanes_at s past) t)
 lanes_carry s t past =
     of_table Carries (length s.threads) t.0 (λ t. facts s (thread t) past) start_facts tt (λ k. facts_carry s (thread k) past)
 
 -- ---- replies
 
+-- the reply to a wait command is one that a wait may give
 wait_of : (x : ThreadFacts) (r : Regions) (level : ℕ) (m : Mode) (a : Bool) (reached : Option Bool) → ReplyIsOfWait (wait_reply x r level m a reached)
 wait_of x r level m a reached =
     go (is_some (deliverable x.apcs r level)) (is_satisfied x reached) (a && is_alerted m x) (a && (is_user m && has_user x.apcs)) (a && x.alerted_kernel)
@@ -166,18 +182,22 @@ wait_of x r level m a reached =
     go false false false false false true = refl
     go false false false false false false = tt
 
+-- the reply to a wait that is begun again is one that a wait may give
 rewait_of : (st : Stand) (l : Lanes) (w : Again) → ReplyIsOfWait (rewait_reply st l w)
 rewait_of st l w =
     wait_of (facts_of l st.thread) st.regions st.level w.mode w.alertable (option_map (is_reached l.timers.now) w.due)
 
+-- the reply to a yes-or-no command is one that a wait may give
 yes_of : (b : Bool) → ReplyIsOfWait (yes_if b)
 yes_of true = tt
 yes_of false = tt
 
+-- the reply to trying for a lock is one that a wait may give
 tried_of : (b : Bool) → ReplyIsOfWait (if b then Done else Spin)
 tried_of true = tt
 tried_of false = tt
 
+-- the reply to any command is one that a wait may give
 reply_of : (s : Script) (st : Stand) (l : Lanes) (c : Command) → ReplyIsOfWait (reply s st l c)
 reply_of s st l (cmd.StartWait m a) = wait_of (facts_of l st.thread) st.regions st.level m a None
 reply_of s st l (cmd.Delay m a units) =
@@ -194,12 +214,14 @@ reply_of s st l (cmd.TestAlert m) = yes_of _
 reply_of s st l (cmd.Acquire k) = tried_of _
 reply_of s st l c = tt
 
+-- a refusal in place of a reply is one that a wait may give
 or_of : (o : Option Refusal) (y : Reply) → ReplyIsOfWait y → ReplyIsOfWait (reply_or o y)
 or_of None y h = h
 or_of (Some r) y h = tt
 
 -- ---- each event
 
+-- a status that an event of a run tells is that of a wait
 pub statuses_are_those_of_waits : (s : Script) (limit : ℕ) (e : Event) (past : List Event) → IsRun s limit (e ∷ past) → TellsWaitStatus e.what
 statuses_are_those_of_waits s limit e past r = go e.what refl
   where

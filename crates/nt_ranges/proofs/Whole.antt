@@ -30,12 +30,14 @@ TurnIsWhole (LookTurn p rises) = length rises.value ≡ class_count
 TurnIsWhole (Next p) = Unit {0}
 TurnIsWhole (SwitchTurn p t) = Unit {0}
 
+-- an action whose turn has a value for each class has one too
 look_whole : (p : CpuNo) (w : What) → TurnIsWhole (turn_at p w) → LookIsWhole w
 look_whole p (Look rises) h = h
 look_whole p w h = tt
 
 -- ---- the robin rule
 
+-- the turn by which a processor goes on is whole
 go_on_whole : (s : Script) (p : CpuNo) (x : Own) (l : Lanes) → TurnIsWhole (go_on_turn s p x l)
 go_on_whole s p x l = go (may_switch x) (next_ready s p x.took l)
   where
@@ -44,6 +46,7 @@ go_on_whole s p x l = go (may_switch x) (next_ready s p x.took l)
     go true None = tt
     go false o = tt
 
+-- the turn that the robin rule finds at a processor is whole, for every number of asks
 robin_at_whole : (s : Script) (p : CpuNo) (x : Own) (l : Lanes) (asked : ℕ → ℕ) → Holds TurnIsWhole (robin_at s p x l asked)
 robin_at_whole s p x l asked = go (is_behind x asked) (is_still x)
   where
@@ -53,17 +56,20 @@ robin_at_whole s p x l asked = go (is_behind x asked) (is_still x)
     go false true = tt
     go false false = go_on_whole s p x l
 
+-- the turn that the robin rule gives a processor in a history is whole
 robin_of_whole : (s : Script) (limit : ℕ) (p : CpuNo) (past : List Event) → Holds TurnIsWhole (robin_of s limit p past)
 robin_of_whole s limit p past =
     holds_when TurnIsWhole (not (is_cut limit (own_of s p past))) (robin_at s p (own_of s p past) (lanes_at s past) (λ c. asked s p c past))
     (λ h. robin_at_whole s p (own_of s p past) (lanes_at s past) (λ c. asked s p c past))
 
+-- the turn that the robin rule finds from a processor on is whole
 robin_from_whole : (s : Script) (limit n p : ℕ) (past : List Event) → Holds TurnIsWhole (robin_from s limit n p past)
 robin_from_whole s limit zero p past = tt
 robin_from_whole s limit (suc n) p past =
     holds_or TurnIsWhole (robin_of s limit (cpu p) past) (robin_from s limit n (if suc p == s.cpus then 0 else suc p) past)
     (robin_of_whole s limit (cpu p) past) (λ e. robin_from_whole s limit n (if suc p == s.cpus then 0 else suc p) past)
 
+-- the looks of a history made by the robin rule have a value for each class
 past_whole : (s : Script) (limit : ℕ) (past : List Event) → IsRobin s limit past → LooksAreWhole past
 past_whole s limit [] h = tt
 past_whole s limit (e ∷ past) h = (
@@ -72,21 +78,25 @@ past_whole s limit (e ∷ past) h = (
   past_whole s limit past h.1,
 )
 
+-- the looks of a robin run have a value for each class
 pub a_robin_run_looks_whole : (s : Script) (limit : ℕ) (past : List Event) → IsRobin s limit past → LooksAreWhole (reverse past)
 a_robin_run_looks_whole s limit past h =
     all_reversed (λ (e : Event). LookIsWhole e.what) past (past_whole s limit past h)
 
 -- ---- plain turns
 
+-- a plain turn is whole
 plain_whole : (input : Input) (t : Turn) → TurnIsPlain input t → TurnIsWhole t
 plain_whole input (LookTurn p rises) h = h.1.classes
 plain_whole input (Next p) h = tt
 plain_whole input (SwitchTurn p t) h = tt
 
+-- events whose turns a text may have have looks with a value for each class
 pub turns_whole : (input : Input) (events : List Event) → AllByRecursion (TurnIsPlain input) (map turn_of events) → LooksAreWhole events
 turns_whole input [] h = tt
 turns_whole input (e ∷ es) h = (look_whole e.cpu e.what (plain_whole input (turn_of e) h.0), turns_whole input es h.1)
 
+-- the looks of a run have a value for each class, if its turns are ones that a text may have
 pub a_replay_looks_whole : (input : Input) (past : List Event) (list : List Turn) → turns past ≡ list → AllByRecursion (TurnIsPlain input) list →
     LooksAreWhole (reverse past)
 a_replay_looks_whole input past list e h = turns_whole input (reverse past) (subst (AllByRecursion (TurnIsPlain input)) (sym e) h)

@@ -14,10 +14,12 @@ abbrev pub width : Row → ℕ
 width [] = 0
 width (f ∷ fs) = suc (length f + width fs)
 
+-- the width of two rows put together is the sum of their widths
 pub width_both : (a b : Row) → width (a ++ b) ≡ width a + width b
 width_both [] b = omega arith
 width_both (f ∷ fs) b = let more = width_both fs b in omega (arith, more)
 
+-- fields joined by spaces have one byte less than the width of their row
 joined_width : (f : List ℕ) (fs : Row) → length (join_with_byte 32 (f ∷ fs)) + 1 ≡ width (f ∷ fs)
 joined_width f [] = let one : length (join_with_byte 32 (f ∷ [])) ≡ length f = refl in omega (arith, one)
 joined_width f (g ∷ fs) =
@@ -33,14 +35,17 @@ row_width f fs =
     let whole = joined_width f fs in
     omega (arith, parts, whole)
 
+-- the text of a row that is not empty is no longer than its width
 pub row_most : (most : ℕ) (f : List ℕ) (fs : Row) → width (f ∷ fs) ≤ most → length (row_text (f ∷ fs)) ≤ most
 row_most most f fs h = let same = row_width f fs in omega (arith, same, h)
 
 -- ---- lines
 
+-- the text of rows is as long as the text of the first row and that of the others together
 pub size_cons : (row : Row) (rows : List Row) → length (rows_text (row ∷ rows)) ≡ length (row_text row) + length (rows_text rows)
 size_cons row rows = length-append (row_text row) (rows_text rows)
 
+-- the text of two lists of rows put together is as long as the two texts together
 pub size_both : (a b : List Row) → length (rows_text (a ++ b)) ≡ length (rows_text a) + length (rows_text b)
 size_both [] b = omega arith
 size_both (row ∷ rows) b =
@@ -49,6 +54,7 @@ size_both (row ∷ rows) b =
     let all : length (rows_text (row ∷ (rows ++ b))) ≡ length (row_text row) + length (rows_text (rows ++ b)) = size_cons row (rows ++ b) in
     omega (arith, more, one, all)
 
+-- the text of one row alone is as long as the row's text
 pub one_size : (row : Row) → length (rows_text (row ∷ [])) ≡ length (row_text row)
 one_size row = let one = size_cons row [] in omega (arith, one)
 

@@ -17,6 +17,7 @@ use Rattle.std.proofs.Common.{ap, arith, inl, inr, refl, subst, sym, ◌∙◌}
 use Rattle.std.proofs.lemmas.Bool.{eq-eqb, eqb-true, ltb-false, ltb-true}
 use Rattle.std.specs.Prelude.{Bool, List, Some, [], false, length, nat_lt, true, ℕ, ◌<◌, ◌==◌, ◌↔◌, ◌∷◌, ◌≡◌, ◌≤◌, ◌⊎◌}
 
+-- a flag that is both true and false gives anything
 both_ways : {A : Type 0} (b : Bool) → b ≡ true → b ≡ false → A
 both_ways true h k = cc
 both_ways false h k = cc
@@ -33,10 +34,12 @@ after_meet P Q k m [] h a l never = a
 after_meet P Q k m (e ∷ past) h (inl a) l never = let z = a.0 in never e past (h.0 (omega (arith, z, l))) a.1
 after_meet P Q k m (e ∷ past) h (inr a) l never = after_meet P Q k m past h.1 a l never
 
+-- what is said of the event at a place of before does not change with one event more
 at_old : (P : Event → List Event → Type 0) (k : ℕ) (e : Event) (past : List Event) → k < length past → At P k (e ∷ past) → At P k past
 at_old P k e past l (inl a) = absurd (let z = a.0 in omega (arith, z, l))
 at_old P k e past l (inr a) = a
 
+-- what is said of the event at the newest place is said of the newest event
 at_new : (P : Event → List Event → Type 0) (k : ℕ) (e : Event) (past : List Event) → length past ≤ k → At P k (e ∷ past) → P e past
 at_new P k e past l (inl a) = a.1
 at_new P k e past l (inr a) = absurd (let z = at_below P k past a in omega (arith, z, l))
@@ -101,6 +104,7 @@ module _ (s : Script) (t : ThreadNo) (n : ℕ) (e : Event) (past : List Event) w
           go (inl o) = (k, last_old k w last, o)
           go (inr o) = absurd (h.1 k (last_old k w last, o.0, o.1))
 
+  -- a frame stopped in a wait stays so if no wait event, new phase or Switch of its thread comes
   pub stopped_on : (b : Bool) → waits_by s t n e ≡ false → renews_by s t n e ≡ false → takes_up s t e ≡ false → Stopped s t n b past →
       Stopped s t n b (e ∷ past)
   stopped_on b w r f (q, (k, o)) = (q, (k, (last_more k w r o.0, inr o.1, ((λ l. f), o.2))))
@@ -187,6 +191,7 @@ module _ (s : Script) (t : ThreadNo) (n : ℕ) (e : Event) (past : List Event) w
           eq-eqb st kernel_apc same
       back (m, last, inr o) = both_ways (wait_blocks e.what) (at_new Blocking m e past (newest m last) o.0) f
 
+  -- a frame whose wait event blocks is stopped in that wait
   pub stopped_now : n < length past → waits_by s t n e ≡ true → wait_blocks e.what ≡ true → Stopped s t n true (e ∷ past)
   stopped_now l w f = (
     refl,

@@ -73,14 +73,17 @@ inv_runs : (s : Script) (t : ThreadNo) (past : List Event) (fs : List Frame) →
 inv_runs s t past [] h = tt
 inv_runs s t past (f ∷ fs) h = h
 
+-- of a thread made ready without a status each frame still tells whether its last wait was interrupted
 inv_yields : (s : Script) (t : ThreadNo) (past : List Event) (l : ℕ) (fs : List Frame) → EachTells s t past fs → Inv s t past (IsReady l None) fs
 inv_yields s t past l [] h = tt
 inv_yields s t past l (f ∷ fs) h = h
 
+-- of a running thread each frame tells whether its last wait event was interrupted
 runs_inv : (s : Script) (t : ThreadNo) (past : List Event) (fs : List Frame) → Inv s t past IsRunning fs → EachTells s t past fs
 runs_inv s t past [] h = tt
 runs_inv s t past (f ∷ fs) h = h
 
+-- if the names of frames fall from a name on, that name is not among them
 falls_apart : (n : ℕ) (fs : List Frame) → NamesFall n fs → NotAmong n fs
 falls_apart n [] h = tt
 falls_apart n (f ∷ fs) h = ((λ e. let a = h.0 in omega (arith, a, e)), apart_less f.name n fs h.0 h.1)
@@ -120,19 +123,23 @@ module _ (s : Script) (t : ThreadNo) (e : Event) (past : List Event) where
   inv_aside IsRunning (f ∷ fs) b h = each_aside (f ∷ fs) (not_its b) h
   inv_aside IsGone (f ∷ fs) b h = tt
 
+-- what holds of the frames of a blocked thread still holds when its wait ends or goes on
 inv_ended : (s : Script) (t : ThreadNo) (past : List Event) (o : Option ℕ) (w : Waiting) (fs : List Frame) → Inv s t past (IsBlocked w) fs →
     Inv s t past (doing_of o w) fs
 inv_ended s t past o w [] h = tt
 inv_ended s t past None w (f ∷ fs) h = h
 inv_ended s t past (Some st) w (f ∷ fs) h = h
 
+-- a conjunction with false is false
 and_no : (b : Bool) → (b && false) ≡ false
 and_no true = refl
 and_no false = refl
 
+-- a conjunction of two true flags is true
 and_yes : (a b : Bool) → a ≡ true → b ≡ true → (a && b) ≡ true
 and_yes a b h k = ap (λ (c : Bool). c && b) h ∙ k
 
+-- a value given only under a condition is there exactly if the condition holds
 some_if : {A : Type 0} (b : Bool) (x : A) → is_some (if b then Some x else None) ≡ b
 some_if true x = refl
 some_if false x = refl
@@ -451,6 +458,7 @@ module _ (s : Script) (limit : ℕ) (t : ThreadNo) (e : Event) (past : List Even
 
 -- ---- the thread is taken up
 
+-- a wait to begin again that is kept under a condition is there exactly if the condition holds
 some_kept : (b : Bool) (o : Option Again) → is_some o ≡ true → is_some (if b then o else None) ≡ b
 some_kept true o h = h
 some_kept false o h = refl
@@ -483,12 +491,14 @@ module _ (s : Script) (t : ThreadNo) (e : Event) (past : List Event) (own : is_o
 
 -- ---- every run
 
+-- what is said of a running thread holds, if the thread is running
 says_runs : (d : Doing) (fs : List Frame) (A : Type 0) → d ≡ IsRunning → Says d fs A → A
 says_runs IsRunning fs A h k = k
 says_runs (IsReady l st) fs A h k = cc
 says_runs (IsBlocked w) fs A h k = cc
 says_runs IsGone fs A h k = cc
 
+-- a ready thread waits in nothing
 ready_waits_not : (d : Doing) → ready_doing d ≡ true → waiting_of d ≡ None
 ready_waits_not (IsReady l st) h = refl
 ready_waits_not d h = cc
@@ -564,22 +574,26 @@ module _ (s : Script) (limit : ℕ) (t : ThreadNo) (e : Event) (past : List Even
   step_by true h = own_step h
   step_by false h = other_step h
 
+-- in a run what holds of a thread's frames by what it does holds
 inv_run : (s : Script) (limit : ℕ) (t : ThreadNo) (past : List Event) → IsRun s limit past →
     Inv s t past (facts s t past).doing (thread_frames s (cpu_of s t) t past)
 inv_run s limit t [] r = tt
 inv_run s limit t (e ∷ past) r = step_by s limit t e past r (inv_run s limit t past r.1) (is_by e t) refl
 
+-- a frame has a wait to begin again exactly if its last wait event was interrupted
 each_first : (s : Script) (t : ThreadNo) (past : List Event) (fs : List Frame) → EachTells s t past fs →
     EachFrame (λ f. (is_some f.again ≡ true) ↔ IsInterrupted s t f.name past) fs
 each_first s t past [] h = tt
 each_first s t past (f ∷ fs) h = (h.0.0, each_first s t past fs h.1)
 
+-- if what is said of a running thread is said and known, the thread is running
 runs_doing_is : (d : Doing) (fs : List Frame) (A : Type 0) → Says d fs A → A → d ≡ IsRunning
 runs_doing_is IsRunning fs A h a = refl
 runs_doing_is (IsReady l st) fs A h a = absurd (h.0 a)
 runs_doing_is (IsBlocked w) fs A h a = absurd (h.0 a)
 runs_doing_is IsGone fs A h a = absurd (h.0 a)
 
+-- a running thread's frame has a wait to take up exactly where an APC interrupted its phase's last wait event
 pub taken_up_where_interrupted : WaitsAreTakenUpWhereInterrupted
 taken_up_where_interrupted s limit t past r run =
     let doing : (facts s t past).doing ≡ IsRunning = runs_doing_is (facts s t past).doing (thread_frames s (cpu_of s t) t past)

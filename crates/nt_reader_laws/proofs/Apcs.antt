@@ -35,10 +35,12 @@ use Rattle.std.specs.Prelude.{Bool, List, None, Option, Some, [], false, if◌th
 
 -- ---- what keeps the queues
 
+-- setting an alerted flag leaves a thread's APC queues
 set_apcs : (m : Mode) (b : Bool) (x : ThreadFacts) → (set_alerted m b x).apcs ≡ x.apcs
 set_apcs KernelMode b x = refl
 set_apcs UserMode b x = refl
 
+-- a release leaves a thread's APC queues
 release_apcs : (x : ThreadFacts) → (release_facts x).apcs ≡ x.apcs
 release_apcs x = go (ends_by_release x) (is_gone x)
   where
@@ -47,6 +49,7 @@ release_apcs x = go (ends_by_release x) (is_gone x)
     go false true = refl
     go false false = refl
 
+-- an alert leaves a thread's APC queues
 alert_apcs : (m : Mode) (x : ThreadFacts) → (alert_facts m x).apcs ≡ x.apcs
 alert_apcs m x = go (is_gone x) (ends_by_alert m x)
   where
@@ -55,6 +58,7 @@ alert_apcs m x = go (is_gone x) (ends_by_alert m x)
     go false true = refl
     go false false = set_apcs m true x
 
+-- testing for an alert leaves a thread's APC queues
 tested_apcs : (m : Mode) (x : ThreadFacts) → (alert_tested m x).apcs ≡ x.apcs
 tested_apcs m x = go (is_alerted m x) (is_user m && has_user x.apcs)
   where
@@ -63,6 +67,7 @@ tested_apcs m x = go (is_alerted m x) (is_user m && has_user x.apcs)
     go false true = refl
     go false false = refl
 
+-- answering a wait leaves a thread's APC queues
 answered_apcs : (st : ℕ) (m : Mode) (a delay : Bool) (x : ThreadFacts) → (answered st m a delay x).apcs ≡ x.apcs
 answered_apcs st m a delay x = go (st == satisfied) delay (st == alerted) ((st == user_apc) && a)
   where
@@ -74,14 +79,17 @@ answered_apcs st m a delay x = go (st == satisfied) delay (st == alerted) ((st =
     go false d false true = refl
     go false d false false = refl
 
+-- beginning a wait leaves a thread's APC queues
 waited_apcs : (n : ℕ) (r : Regions) (level : ℕ) (m : Mode) (a delay : Bool) (y : Reply) (x : ThreadFacts) → (waited n r level m a delay y x).apcs ≡ x.apcs
 waited_apcs n r level m a delay (Status st) x = answered_apcs st m a delay x
 waited_apcs n r level m a delay y x = refl
 
+-- going on with an interrupted wait leaves a thread's APC queues
 again_apcs : (n : ℕ) (r : Regions) (level : ℕ) (again : Option Again) (y : Reply) (x : ThreadFacts) → (waited_again n r level again y x).apcs ≡ x.apcs
 again_apcs n r level None y x = refl
 again_apcs n r level (Some w) y x = waited_apcs n r level w.mode w.alertable (is_some w.due) y x
 
+-- inserting an APC leaves a thread's queues with that APC put in
 insert_apcs : (pick : Pick) (x : ThreadFacts) → (insert_facts pick x).apcs ≡ with_apc pick x.apcs
 insert_apcs pick x = go (ends_by_apc pick x) (is_kernel_kind pick.kind)
   where
@@ -97,6 +105,7 @@ insert_apcs pick x = go (ends_by_apc pick x) (is_kernel_kind pick.kind)
 
 -- ---- events
 
+-- an event that names a thread leaves the queues that its calls of them leave
 named_step : (s : Script) (t : ThreadNo) (n : ℕ) (w : What) (x : ThreadFacts) → (named_facts s t n w x).apcs ≡ left_by_acts (named_apcs s t n w) x.apcs
 named_step s t n (Call f (Release u) y) x = go (is_answer y && (u.0 == t.0))
   where
@@ -126,6 +135,7 @@ named_step s t n (Expire (OfDelay u) from) x = go (u.0 == t.0) (ends_by_expiry f
     go false b = refl
 named_step s t n w x = refl
 
+-- an event that a thread makes leaves the queues that its calls of them leave
 made_step : (s : Script) (n : ℕ) (st : Stand) (w : What) (x : ThreadFacts) → (made_facts s n st w x).apcs ≡ left_by_acts (made_apcs st.body w) x.apcs
 made_step s n st (Call f (StartWait m a) y) x = waited_apcs n st.regions st.level m a false y x
 made_step s n st (Call f (Delay m a u) y) x = waited_apcs n st.regions st.level m a true y x
@@ -151,10 +161,12 @@ made_step s n st (End f) x = go st.body
 made_step s n st (Flush a from) x = refl
 made_step s n st w x = refl
 
+-- the queues left by joined lists of calls are those left by the first list after the second
 left-append : (xs ys : List Act) (q : ApcQueues) → left_by_acts (xs ++ ys) q ≡ left_by_acts xs (left_by_acts ys q)
 left-append [] ys q = refl
 left-append (x ∷ xs) ys q = ap (after x) (left-append xs ys q)
 
+-- an event leaves the queues that all its calls of them leave
 event_step : (s : Script) (t : ThreadNo) (e : Event) (past : List Event) → (facts s t (e ∷ past)).apcs
     ≡ left_by_acts (apc_acts s t (length past) (stand_at s e.cpu past) (is_of_thread s t e) e.what) (facts s t past).apcs
 event_step s t e past =
@@ -169,10 +181,12 @@ event_step s t e past =
     go true = made_step s (length past) (stand_at s e.cpu past) e.what (facts s t past)
     go false = refl
 
+-- calls made after those from empty queues leave the queues of all calls joined
 queues-append : (xs ys : List Act) → left_by_acts xs (queues_of ys) ≡ queues_of (xs ++ ys)
 queues-append [] ys = refl
 queues-append (x ∷ xs) ys = ap (after x) (queues-append xs ys)
 
+-- the queues of a thread after a history are those that its calls leave
 history_step : (s : Script) (t : ThreadNo) (past : List Event) → (facts s t past).apcs ≡ queues_of (apc_acts_in s t past)
 history_step s t [] = refl
 history_step s t (e ∷ past) =
@@ -181,12 +195,14 @@ history_step s t (e ∷ past) =
 
 -- ---- numbers
 
+-- event numbers of calls that are below one number are below a greater one
 below_more : (n m : ℕ) (acts : List Act) → n ≤ m → NumbersBelow n acts → NumbersBelow m acts
 below_more n m [] l h = tt
 below_more n m (Inserts x ∷ acts) l h = (let k = h.0 in omega (arith, k, l), below_more n m acts l h.1)
 below_more n m (Uses a ∷ acts) l h = below_more n m acts l h
 below_more n m (Closes ∷ acts) l h = below_more n m acts l h
 
+-- calls of the event's own thread are below the number of which the earlier ones are below
 made_below : (n m : ℕ) (body : Option Body) (b : Bool) (w : What) (acts : List Act) → NumbersBelow n acts →
     NumbersBelow n ((if b then made_apcs body w else []) ++ acts)
 made_below n m body false w acts h = h
@@ -199,6 +215,7 @@ made_below n m body true (End f) acts h = go (option_map_or is_base_body body fa
     go false = h
 made_below n m body true w acts h = h
 
+-- calls of the event's own thread leave the numbers of inserts rising
 made_rise : (body : Option Body) (b : Bool) (w : What) (acts : List Act) → NumbersRise acts → NumbersRise ((if b then made_apcs body w else []) ++ acts)
 made_rise body false w acts h = h
 made_rise body true (Begin (Apc a) from) acts h = h
@@ -210,6 +227,7 @@ made_rise body true (End f) acts h = go (option_map_or is_base_body body false)
     go false = h
 made_rise body true w acts h = h
 
+-- calls of an event that names a thread are below the next number
 named_below : (s : Script) (t : ThreadNo) (n : ℕ) (w : What) (acts : List Act) → NumbersBelow n acts → NumbersBelow (suc n) (named_apcs s t n w ++ acts)
 named_below s t n (Call f (InsertApc a) Yes) acts h = go ((owner_of s a).0 == t.0)
   where
@@ -223,6 +241,7 @@ named_below s t n (Call f (RemoveApc a) Yes) acts h = go ((owner_of s a).0 == t.
     go false = below_more n (suc n) acts (omega arith) h
 named_below s t n w acts h = below_more n (suc n) acts (omega arith) h
 
+-- calls of an event that names a thread leave the numbers of inserts rising
 named_rise : (s : Script) (t : ThreadNo) (n : ℕ) (w : What) (acts : List Act) → NumbersBelow n acts → NumbersRise acts →
     NumbersRise (named_apcs s t n w ++ acts)
 named_rise s t n (Call f (InsertApc a) Yes) acts h k = go ((owner_of s a).0 == t.0)
@@ -237,6 +256,7 @@ named_rise s t n (Call f (RemoveApc a) Yes) acts h k = go ((owner_of s a).0 == t
     go false = k
 named_rise s t n w acts h k = k
 
+-- the numbers of a history's inserts rise and are below its length
 numbers : (s : Script) (t : ThreadNo) (past : List Event) → NumbersBelow (length past) (apc_acts_in s t past) × NumbersRise (apc_acts_in s t past)
 numbers s t [] = (tt, tt)
 numbers s t (e ∷ past) =
@@ -250,6 +270,7 @@ numbers s t (e ∷ past) =
       subst NumbersRise (sym group) (named_rise s t (length past) e.what (made ++ apc_acts_in s t past) below rise),
     )
 
+-- each event leaves of a thread's APC queues what its calls leave, and so does every history
 pub apc_calls : ApcEventsAreCalls
 apc_calls s t = record {
   event = λ e past. event_step s t e past;

@@ -60,6 +60,7 @@ use Rattle.std.specs.Prelude.{Bool, List, None, Option, Some, [], false, if◌th
 
 -- ---- what a refused call does, command by command
 
+-- a refused call moves no lock
 refused_move : (c : Command) (r : Refusal) → call_move c (Refused r) ≡ NoMove
 refused_move (Acquire x) r = refl
 refused_move (Unlock x) r = refl
@@ -83,22 +84,27 @@ refused_next due c r f q =
     go o (Spins x) e = cc
     go o (Frees x) e = cc
 
+-- a refused call does not stop its routine
 refused_goes_on : (c : Command) (r : Refusal) → stops c (Refused r) ≡ false
 refused_goes_on Yield r = refl
 refused_goes_on c r = refl
 
+-- a refused call leaves the sweep as it was
 refused_sweep : (n : ℕ) (c : Command) (r : Refusal) (old : Bool) → sweep_after (Call n c (Refused r)) old ≡ old
 refused_sweep n (SetTimer t due period) r old = refl
 refused_sweep n c r old = refl
 
+-- a refused call asks for nothing
 refused_asks : (s : Script) (st : Stand) (c : Command) (r : Refusal) (l : Lanes) → command_asks s st c (Refused r) l ≡ []
 refused_asks s st (Queue d) r l = refl
 refused_asks s st c r l = refl
 
+-- a refused call leaves each DPC object as it was
 refused_object : (d : DpcNo) (n m : ℕ) (by : CpuNo) (c : Command) (r : Refusal) (o : ObjectState) → object_after d n by (Call m c (Refused r)) o ≡ o
 refused_object d n m by (Queue e) r o = refl
 refused_object d n m by c r o = refl
 
+-- a refused call leaves each DPC queue as it was
 refused_queue : (s : Script) (p : CpuNo) (n m : ℕ) (by : CpuNo) (c : Command) (r : Refusal) (objects : List ObjectState) (x : QueueState) →
     queue_after s p n by (Call m c (Refused r)) objects x ≡ x
 refused_queue s p n m by (Queue e) r objects x = go (by.0 == p.0)
@@ -112,22 +118,27 @@ refused_queue s p n m by c r objects x = go (by.0 == p.0)
     go true = refl
     go false = refl
 
+-- a refused call leaves the facts of the calling thread as they were
 refused_made : (s : Script) (n m : ℕ) (st : Stand) (c : Command) (r : Refusal) (x : ThreadFacts) → made_facts s n st (Call m c (Refused r)) x ≡ x
 refused_made s n m st (Yield) r x = refl
 refused_made s n m st c r x = refl
 
+-- a refused call leaves the facts of the threads that it names as they were
 refused_named : (s : Script) (t : ThreadNo) (n m : ℕ) (c : Command) (r : Refusal) (x : ThreadFacts) → named_facts s t n (Call m c (Refused r)) x ≡ x
 refused_named s t n m (Release u) r x = refl
 refused_named s t n m c r x = refl
 
+-- a refused call leaves the time as it was
 refused_time : (m now : ℕ) (c : Command) (r : Refusal) → time_after (Call m c (Refused r)) now ≡ now
 refused_time m now (Clock u) r = refl
 refused_time m now c r = refl
 
+-- a refused call leaves each timer's setting as it was
 refused_timer : (t : TimerNo) (n m now : ℕ) (c : Command) (r : Refusal) (old : Option Setting) → timer_after t n now (Call m c (Refused r)) old ≡ old
 refused_timer t n m now (SetTimer x due period) r old = refl
 refused_timer t n m now c r old = refl
 
+-- a refused call leaves a blocked thread's setting as it was
 refused_blocked : (n m now : ℕ) (again : Option Again) (c : Command) (r : Refusal) (old : Option Setting) →
     blocked_after n now again (Call m c (Refused r)) old ≡ old
 refused_blocked n m now again (Delay mode a u) r old = refl
@@ -135,10 +146,12 @@ refused_blocked n m now again c r old = refl
 
 -- ---- the innermost frame
 
+-- a list of frames that the test finds empty is empty
 null_list : (fs : List Frame) → is_null fs ≡ true → fs ≡ []
 null_list [] h = refl
 null_list (f ∷ fs) h = cc
 
+-- numbers that are not the same differ by the test
 unequal : (m n : ℕ) → (m ≡ n → ⊥) → (m == n) ≡ false
 unequal m n h = go (m == n) refl
   where
@@ -146,6 +159,7 @@ unequal m n h = go (m == n) refl
     go false e = refl
     go true e = absurd (h (eqb-true m n e))
 
+-- changing the frames of a name that is not among them leaves all frames as they were
 at_name_none : (n : ℕ) (g : Frame → Frame) (fs : List Frame) → NotAmong n fs → at_name n g fs ≡ fs
 at_name_none n g [] h = refl
 at_name_none n g (f ∷ fs) h = ap (λ (b : Bool). (if b then g f else f) ∷ fs) (unequal f.name n h.0)
@@ -166,6 +180,7 @@ apart_head f [] fs h a = cc
 apart_head f (g ∷ gs) fs h a =
     let same : g ≡ f = cc in subst (λ (x : Frame). NotAmong x.name fs) same a.0
 
+-- the innermost frame is the first of the processor's own, if it has any
 own_head : (x : Frames) (f : Frame) → innermost x ≡ Some f → is_null x.own ≡ false → head_of x.own ≡ Some f
 own_head x f h n = go x.own refl
   where
@@ -178,10 +193,12 @@ own_head x f h n = go x.own refl
 
 -- ---- a frame that spins tries its lock again, which isn't refused; so the frame of a refused call spins on none
 
+-- a refusal is not a reply to trying for a lock
 not_refused : (b : Bool) (r : Refusal) → Refused r ≡ (if b then Done else Spin) → ⊥
 not_refused true r h = cc
 not_refused false r h = cc
 
+-- in a run a frame whose call is refused spins on no lock
 no_spin : (s : Script) (limit : ℕ) (p : CpuNo) (past : List Event) (n : ℕ) (c : Command) (r : Refusal) → IsRun s limit past →
     (k : KnownCall s p (own_of s p past) (lanes_at s past) n c (Refused r)) → k.frame.spin ≡ None
 no_spin s limit p past n c r run k = go k.frame.spin refl
@@ -461,6 +478,7 @@ module _ (s : Script) (limit : ℕ) (e : Event) (past : List Event) (c : Command
     asked = λ p class. ap (λ (b : Bool). raised b (length past) (asked s p class past)) (asks_nobody p class);
   }
 
+-- in a run a refused command changes only its frame's place and its processor's count of events
 pub refused_takes_place : RefusedCommandsTakeTheirPlace
 refused_takes_place s limit e past name c r run w =
     let known : KnownCall s e.cpu (own_of s e.cpu past) (lanes_at s past) name c (Refused r) =

@@ -61,9 +61,11 @@ record Picks (pick : ℕ → ℕ → ℕ) : Type 0 where
   none : pick 0 0 ≡ 0
   raised : (crit guard new_crit new_guard : ℕ) → new_crit ≤ crit + 1 → new_guard ≤ guard + 1 → pick new_crit new_guard ≤ pick crit guard + 1
 
+-- the count of critical regions is one of the two counts of a frame
 picks_crit : Picks (λ crit guard. crit)
 picks_crit = record { none = refl; raised = λ crit guard new_crit new_guard at_crit at_guard. at_crit }
 
+-- the count of guarded regions is one of the two counts of a frame
 picks_guard : Picks (λ crit guard. guard)
 picks_guard = record { none = refl; raised = λ crit guard new_crit new_guard at_crit at_guard. at_guard }
 
@@ -134,14 +136,18 @@ module _ (c : Frame → ℕ) (k : Counts c) where
       go true false h = omega (arith, h)
       go false b h = h
 
+-- a call adds at most one to the critical regions of its frame
 pub crit_called : (due : Option ℕ) (c : Command) (y : Reply) (f : Frame) → (called due c y f).crit ≤ f.crit + 1
 crit_called due c y f = (call_raises due c y f).0
 
+-- a call adds at most one to the guarded regions of its frame
 pub guard_called : (due : Option ℕ) (c : Command) (y : Reply) (f : Frame) → (called due c y f).guard ≤ f.guard + 1
 guard_called due c y f = (call_raises due c y f).1
 
+-- a thread's frames are in no more critical regions than its processor has made events
 pub crit_made : (s : Script) (p : CpuNo) (t : ThreadNo) (past : List Event) → crit_of (thread_frames s p t past) ≤ made p past
 crit_made s p t past = made_counts (λ f. f.crit) (counts (λ crit guard. crit) picks_crit) s p t past
 
+-- a thread's frames are in no more guarded regions than its processor has made events
 pub guard_made : (s : Script) (p : CpuNo) (t : ThreadNo) (past : List Event) → guard_of (thread_frames s p t past) ≤ made p past
 guard_made s p t past = made_counts (λ f. f.guard) (counts (λ crit guard. guard) picks_guard) s p t past

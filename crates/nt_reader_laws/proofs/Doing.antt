@@ -43,10 +43,12 @@ made_to n st (Gone u) old = IsGone
 made_to n st (Call f Yield Done) old = IsReady st.level None
 made_to n st w old = doing_in (blocked_in n st w) old
 
+-- setting an alerted flag leaves what a thread is doing
 set_doing : (m : Mode) (b : Bool) (x : ThreadFacts) → (set_alerted m b x).doing ≡ x.doing
 set_doing KernelMode b x = refl
 set_doing UserMode b x = refl
 
+-- answering a wait leaves what a thread is doing
 answered_doing : (st : ℕ) (m : Mode) (a delay : Bool) (x : ThreadFacts) → (answered st m a delay x).doing ≡ x.doing
 answered_doing st m a delay x = go (st == satisfied) delay (st == alerted) ((st == user_apc) && a)
   where
@@ -58,6 +60,7 @@ answered_doing st m a delay x = go (st == satisfied) delay (st == alerted) ((st 
     go false d false true = refl
     go false d false false = refl
 
+-- testing for an alert leaves what a thread is doing
 tested_doing : (m : Mode) (x : ThreadFacts) → (alert_tested m x).doing ≡ x.doing
 tested_doing m x = go (is_alerted m x) (is_user m && has_user x.apcs)
   where
@@ -66,12 +69,14 @@ tested_doing m x = go (is_alerted m x) (is_user m && has_user x.apcs)
     go false true = refl
     go false false = refl
 
+-- ending a frame leaves what a thread is doing
 ended_frame_doing : (b : Option Body) (x : ThreadFacts) → (frame_ended b x).doing ≡ x.doing
 ended_frame_doing (Some (OnBase t)) x = refl
 ended_frame_doing (Some (OnApc a UserApc)) x = tested_doing UserMode x
 ended_frame_doing (Some b) x = refl
 ended_frame_doing None x = refl
 
+-- going on with an interrupted wait blocks the thread in it if it is blocked again, else leaves what it does
 again_doing : (n : ℕ) (st : Stand) (f : ℕ) (again : Option Again) (y : Reply) (x : ThreadFacts) →
     (waited_again n st.regions st.level again y x).doing ≡ (if is_blocked y then doing_in (option_map (waiting_as n st) again) x.doing else x.doing)
 again_doing n st f None Blocked x = refl
@@ -89,6 +94,7 @@ again_doing n st f (Some w) No x = refl
 again_doing n st f (Some w) (Refused r) x = refl
 again_doing n st f (Some w) Spin x = refl
 
+-- what a thread does after an event of its own is told by the event and by what it did before
 pub made_doing : (s : Script) (n : ℕ) (st : Stand) (w : What) (x : ThreadFacts) → (made_facts s n st w x).doing ≡ made_to n st w x.doing
 made_doing s n st (Switch u status) x = refl
 made_doing s n st (Call f (StartWait m a) (Status k)) x = answered_doing k m a false x
@@ -122,6 +128,7 @@ doing_of (Some status) w = IsReady w.level (Some status)
 abbrev with_doing : Doing → ThreadFacts → ThreadFacts
 with_doing d x = record x { doing = d }
 
+-- an event that names a blocked thread ends its wait, or leaves it blocked
 named_blocked : (s : Script) (t : ThreadNo) (n : ℕ) (what : What) (w : Waiting) (x : ThreadFacts) →
     (named_facts s t n what (with_doing (IsBlocked w) x)).doing ≡ doing_of (ends_wait s t n (with_doing (IsBlocked w) x) w what) w
 named_blocked s t n (Call f (Release u) y) w x = go (is_answer y && (u.0 == t.0)) (not w.delay)
@@ -173,12 +180,14 @@ named_blocked s t n (Expire (OfDelay u) from) w x = go (u.0 == t.0) (w.delay && 
     go false e = refl
 named_blocked s t n what w x = refl
 
+-- an event makes a blocked thread ready with a status if it ends the wait, and else leaves it blocked
 pub blocked_named : (s : Script) (t : ThreadNo) (n : ℕ) (what : What) (w : Waiting) (x : ThreadFacts) → x.doing ≡ IsBlocked w →
     (named_facts s t n what x).doing ≡ doing_of (ends_wait s t n x w what) w
 blocked_named s t n what w x h =
     let same : with_doing (IsBlocked w) x ≡ x = λ i. record x { doing = sym h i } in
     subst (λ (z : ThreadFacts). (named_facts s t n what z).doing ≡ doing_of (ends_wait s t n z w what) w) same (named_blocked s t n what w x)
 
+-- an event that names a thread that waits in nothing leaves what it is doing
 named_other : (s : Script) (t : ThreadNo) (n : ℕ) (what : What) (d : Doing) (x : ThreadFacts) → waiting_of d ≡ None →
     (named_facts s t n what (with_doing d x)).doing ≡ d
 named_other s t n (Call f (Release u) y) d x h = go (is_answer y && (u.0 == t.0)) d h

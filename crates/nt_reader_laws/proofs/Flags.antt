@@ -102,6 +102,7 @@ Step s t n st b w x = flags (after s t n st b w x) ≡ flags_after (sets_of s t 
 
 -- ---- events that name the thread
 
+-- a release sets the released flag of a thread whose wait it does not end and that is not gone
 released_by : (a e g : Bool) (x : ThreadFacts) → flags (if a then (if e then ended satisfied x else (if g then x else record x { released = true })) else x)
     ≡ flags_after (record none_of_them { released = a && (not e && not g) }) none_of_them (flags x)
 released_by true true g x = refl
@@ -109,6 +110,7 @@ released_by true false true x = refl
 released_by true false false x = refl
 released_by false e g x = refl
 
+-- a kernel alert sets that flag of a thread whose wait it does not end and that is not gone
 alerted_kernel_by : (a g e u : Bool) (x : ThreadFacts) →
     flags (if a then (if g then x else (if e then ended alerted x else record x { alerted_kernel = true })) else x)
     ≡ flags_after (record none_of_them { kernel = (a && true) && (not g && not e); user = (a && false) && (not g && not u) }) none_of_them (flags x)
@@ -117,6 +119,7 @@ alerted_kernel_by true false true u x = refl
 alerted_kernel_by true false false u x = refl
 alerted_kernel_by false g e u x = refl
 
+-- a user alert sets that flag of a thread whose wait it does not end and that is not gone
 alerted_user_by : (a g e k : Bool) (x : ThreadFacts) →
     flags (if a then (if g then x else (if e then ended alerted x else record x { alerted_user = true })) else x)
     ≡ flags_after (record none_of_them { kernel = (a && false) && (not g && not k); user = (a && true) && (not g && not e) }) none_of_them (flags x)
@@ -125,6 +128,7 @@ alerted_user_by true false true k x = refl
 alerted_user_by true false false k x = refl
 alerted_user_by false g e k x = refl
 
+-- an inserted APC sets the pending flag exactly if it ends a user wait
 inserted_by : (a k e u z : Bool) (pick : Pick) (x : ThreadFacts) →
     flags (if a then (if (if k then e else u) then (if k then ended kernel_apc (record x { apcs = with_apc pick x.apcs })
     else record (ended user_apc (record x { apcs = with_apc pick x.apcs })) { user_pending = true }) else record x { apcs = with_apc pick x.apcs }) else x)
@@ -139,11 +143,13 @@ inserted_by true false e false false pick x = refl
 inserted_by false k e u true pick x = refl
 inserted_by false k e u false pick x = refl
 
+-- removing an APC leaves the flags
 removed_by : (b : Bool) (a : ApcNo) (x : ThreadFacts) → flags (if b then record x { apcs = without_apc a x.apcs } else x)
     ≡ flags_after none_of_them none_of_them (flags x)
 removed_by true a x = refl
 removed_by false a x = refl
 
+-- an expiry leaves the flags
 expired_by : (a e : Bool) (x : ThreadFacts) → flags (if a then (if e then ended satisfied x else x) else x)
     ≡ flags_after none_of_them none_of_them (flags x)
 expired_by true true x = refl
@@ -152,6 +158,7 @@ expired_by false e x = refl
 
 -- ---- events that the thread makes
 
+-- a user alert test clears the user flag, or makes user APCs pending if the flag was clear
 tested_user : (f u : Bool) (x : ThreadFacts) → x.alerted_user ≡ f →
     flags (if f then record x { alerted_user = false } else (if u then record x { user_pending = true } else x))
     ≡ flags_after (record none_of_them { pending = not f && u }) (record none_of_them { user = true }) (flags x)
@@ -159,17 +166,20 @@ tested_user true u x h = refl
 tested_user false true x h = λ i. record { released = x.released; kernel = x.alerted_kernel; user = h i; pending = true; leaving = x.leaving }
 tested_user false false x h = λ i. record { released = x.released; kernel = x.alerted_kernel; user = h i; pending = x.user_pending; leaving = x.leaving }
 
+-- a kernel alert test clears the kernel flag and sets none
 tested_kernel : (f : Bool) (x : ThreadFacts) → x.alerted_kernel ≡ f → flags (if f then record x { alerted_kernel = false } else x)
     ≡ flags_after none_of_them (record none_of_them { kernel = true }) (flags x)
 tested_kernel true x h = refl
 tested_kernel false x h = λ i. record { released = x.released; kernel = h i; user = x.alerted_user; pending = x.user_pending; leaving = x.leaving }
 
+-- a user alert test that is made under a condition sets and clears the flags that the condition says
 test_user : (y : Bool) (x : ThreadFacts) → flags (if y then alert_tested UserMode x else x)
     ≡ flags_after (record none_of_them { pending = is_mode UserMode (when y (Some UserMode)) && (not x.alerted_user && has_user x.apcs) })
     (record none_of_them { kernel = is_mode KernelMode (when y (Some UserMode)); user = is_mode UserMode (when y (Some UserMode)) }) (flags x)
 test_user true x = tested_user x.alerted_user (has_user x.apcs) x refl
 test_user false x = refl
 
+-- a kernel alert test that is made under a condition clears the kernel flag under it, and sets none
 test_kernel : (y : Bool) (x : ThreadFacts) → flags (if y then alert_tested KernelMode x else x)
     ≡ flags_after (record none_of_them { pending = is_mode UserMode (when y (Some KernelMode)) && (not x.alerted_user && has_user x.apcs) })
     (record none_of_them { kernel = is_mode KernelMode (when y (Some KernelMode)); user = is_mode UserMode (when y (Some KernelMode)) }) (flags x)
@@ -187,6 +197,7 @@ Answers sat al us m a delay x = flags (if sat then (if delay then x else record 
       user = is_mode UserMode (option_map (alert_mode x) (when al (Some m))) || false;
     }) (flags x)
 
+-- taking an alert in user mode clears the user flag where it is set, else the kernel flag
 taken_user : (f : Bool) (x : ThreadFacts) → flags (set_alerted (if f then UserMode else KernelMode) false x)
     ≡ flags_after none_of_them (record none_of_them {
       kernel = same_mode KernelMode (if f then UserMode else KernelMode) || false;
@@ -195,6 +206,7 @@ taken_user : (f : Bool) (x : ThreadFacts) → flags (set_alerted (if f then User
 taken_user true x = refl
 taken_user false x = refl
 
+-- taking an alert in kernel mode clears the kernel flag
 taken_kernel : (f : Bool) (x : ThreadFacts) → flags (set_alerted (if f then KernelMode else KernelMode) false x)
     ≡ flags_after none_of_them (record none_of_them {
       kernel = same_mode KernelMode (if f then KernelMode else KernelMode) || false;
@@ -231,6 +243,7 @@ answers_one st m a delay x = go (st == satisfied) (st == alerted) (st == user_ap
         marked false = refl
     go false false false h k l = refl
 
+-- answering a wait sets and clears the flags by the status of the answer
 answers_so : (st : ℕ) (m : Mode) (a delay : Bool) (x : ThreadFacts) (r : Bool) → ((st == satisfied) && not delay) ≡ r →
     flags (answered st m a delay x) ≡ flags_after (record none_of_them { pending = ((st == user_apc) && a) || false })
     (record none_of_them {
@@ -246,10 +259,12 @@ answers_so st m a delay x r h =
       user = is_mode UserMode (option_map (alert_mode x) (when (st == alerted) (Some m))) || false;
     }) (flags x)) h
 
+-- a conjunction whose right side is true is its left side
 and_true : (b : Bool) → (b && true) ≡ b
 and_true true = refl
 and_true false = refl
 
+-- a conjunction whose right side is false fails, whatever its left side is
 and_false : (b : Bool) → (b && false) ≡ false
 and_false true = refl
 and_false false = refl
@@ -371,6 +386,7 @@ module _ (s : Script) (t : ThreadNo) where
   flags_step e past =
       ap flags (facts_made s t e past (is_of_thread s t e) refl) ∙ step_of (length past) (stand_at s e.cpu past) (is_of_thread s t e) e.what (facts s t past)
 
+-- each flag of a thread is set exactly where an event set it and no later one cleared it
 pub flags_read : FlagsAreSetAndKept
 flags_read s t past = record {
   released = set_and_kept (λ past. (facts s t past).released) (sets_released s t) (clears_released s t) refl

@@ -77,10 +77,12 @@ use Rattle.std.specs.Prelude.{◌==◌, ◌||◌, ◌∷◌, ◌≡◌, ◌≤�
 
 -- ---- names
 
+-- if all frames have names below a number, the next name is at most that number
 head_below : (n : ℕ) (fs : List Frame) → AllBelow n fs → next_name fs ≤ n
 head_below n [] h = omega arith
 head_below n (f ∷ fs) h = let l = h.0 in omega (arith, l)
 
+-- the frames of a processor have names below the number of events so far
 named_below : (s : Script) (p : CpuNo) (past : List Event) → AreNamedBelow (length past) (frames_of s p past)
 named_below s p past = (
   head_below (length past) (own_frames p past) (all_named s p (thread 0) past).own,
@@ -92,6 +94,7 @@ named_below s p past = (
 
 -- ---- the counts of the running thread
 
+-- a running thread's frames are in no more critical regions than its processor has made events
 part_crit : (s : Script) (p : CpuNo) (past : List Event) → crit_of (thread_part (frames_of s p past)) ≤ made p past
 part_crit s p past = go (running p past)
   where
@@ -106,6 +109,7 @@ part_crit s p past = go (running p past)
     go None = omega arith
     go (Some t) = part t (nat_lt t.0 (length s.threads)) refl
 
+-- a running thread's frames are in no more guarded regions than its processor has made events
 part_guard : (s : Script) (p : CpuNo) (past : List Event) → guard_of (thread_part (frames_of s p past)) ≤ made p past
 part_guard s p past = go (running p past)
   where
@@ -142,6 +146,7 @@ called_above own x f due (Unlock k) Done i p r = (freed_base own f p, keep_tail 
 called_above own x f due c Done i p r = (p.level, p.kept, tt)
 called_above own x f due c y i p r = (p.level, p.kept, tt)
 
+-- a call leaves whether a frame is in its kernel phase and whether it is leaving
 called_frame : (due : Option ℕ) (c : Command) (y : Reply) (f : Frame) → ((called due c y f).kernel_phase ≡ f.kernel_phase) ×
     ((called due c y f).leaving ≡ f.leaving)
 called_frame due (StartWait m a) y f = (refl, refl)
@@ -153,6 +158,7 @@ called_frame due c Done f = done c
     done c = (refl, refl)
 called_frame due c y f = (refl, refl)
 
+-- a call that is legal in nested frames may be made in their innermost one
 call_stands : (x : Frames) (f : Frame) (due : Option ℕ) (c : Command) (y : Reply) → AreNested x → innermost x ≡ Some f →
     (is_refused y ≡ false → refusal_in c x ≡ None) → crit_of (thread_part x) + 1 < 2 ^ 32 → guard_of (thread_part x) + 1 < 2 ^ 32 →
     MayStandFor f (called due c y f) x
@@ -178,6 +184,7 @@ call_stands x f due c y h k r a b =
       guard = omega (arith, b, guard);
     }
 
+-- a call that is legal in nested frames leaves them nested
 call_nested : (x : Frames) (f : Frame) (due : Option ℕ) (c : Command) (y : Reply) (r : Option ThreadNo) → AreNested x → innermost x ≡ Some f →
     (is_refused y ≡ false → refusal_in c x ≡ None) → crit_of (thread_part x) + 1 < 2 ^ 32 → guard_of (thread_part x) + 1 < 2 ^ 32 →
     AreNested (at_innermost (called due c y) x)
@@ -197,11 +204,13 @@ runs_or_stops : (x : Frames) (b : Bool) → AreNested x → AreNested (record x 
 runs_or_stops x true h = stopped_nested x h
 runs_or_stops x false h = h
 
+-- taking up a thread that is there leaves nested frames nested
 taken_nested : (x : Frames) (t : ThreadNo) → AreNested x → t.0 < length x.threads → AreNested (taken t x)
 taken_nested x t h l = record { own = h.own; threads = h.threads; running = l; newer = h.newer }
 
 -- ---- each event
 
+-- a class that is one of the classes of interrupt routines is an interrupt class
 isr_class : (ks : List ℕ) (c : ℕ) → list_all is_isr_level ks ≡ true → list_any (λ k. k == c) ks ≡ true → is_isr_level c ≡ true
 isr_class [] c h a = cc
 isr_class (k ∷ ks) c h a = go (k == c) refl a (λ b. isr_class ks c (both (is_isr_level k) _ h).1 b)
@@ -211,6 +220,7 @@ isr_class (k ∷ ks) c h a = go (k == c) refl a (λ b. isr_class ks c (both (is_
     go true e x ih = let n : k ≡ c = eqb-true k c e in sym (ap is_isr_level n) ∙ (both (is_isr_level k) _ h).0
     go false e x ih = ih x
 
+-- the conjunction of flags that both hold holds
 both_hold : (a b : Bool) → a ≡ true → b ≡ true → (a && b) ≡ true
 both_hold a b h k = ap (λ (c : Bool). c && b) h ∙ k
 
@@ -442,6 +452,7 @@ module _ (s : Script) (limit : ℕ) (e : Event) (past : List Event) (r : IsRun s
           resumed_nested None z f q i = waits_nested (resumed None) f.again f z q i refl
           resumed_nested (Some k) z f q i = waits_nested (resumed (Some k)) (again_after (Status k) f.again f.again) f z q i refl
 
+-- the frames of each processor in a run are nested, if the limit is below 2 to the 32nd
 nested_run : (s : Script) (limit : ℕ) (p : CpuNo) (past : List Event) → IsRun s limit past → limit < 2 ^ 32 → AreNested (frames_of s p past)
 nested_run s limit p [] r l = nested_start (length s.threads)
 nested_run s limit p (e ∷ past) r l = go (is_of e p) refl (nested_run s limit p past r.1 l)
@@ -456,6 +467,7 @@ nested_run s limit p (e ∷ past) r l = go (is_of e p) refl (nested_run s limit 
         subst AreNested (sym (frames_move s p e past o))
         (subst (λ (q : CpuNo). AreNested (frames_after s (length past) (due_of e.what (time past)) e (frames_of s q past))) same left)
 
+-- each event of a run is a call that may be made of the frames, if the limit is below 2 to the 32nd
 each_made : (s : Script) (limit : ℕ) (p : CpuNo) (past : List Event) → IsRun s limit past → limit < 2 ^ 32 → EachIsMade s p past
 each_made s limit p [] r l = tt
 each_made s limit p (e ∷ past) r l = (
@@ -463,6 +475,7 @@ each_made s limit p (e ∷ past) r l = (
   each_made s limit p past r.1 l,
 )
 
+-- in a run each processor's frames are nested and are what the calls of its events leave
 pub frames_are_calls : FramesAreCalls
 frames_are_calls s limit p past r l =
     let made = each_made s limit p past r l in

@@ -15,12 +15,15 @@ use Rattle.std.specs.Prelude.{Bool, Err, List, Ok, [], false, if◌then◌else�
 
 -- ---- the turns of a history with one more event
 
+-- the turns of a history with one event more are those of before and that event's turn
 turns_more : (e : Event) (past : List Event) → turns (e ∷ past) ≡ turns past ++ turn_of e ∷ []
 turns_more e past = ap (map turn_of) (reverse-append (e ∷ []) past) ∙ map_push turn_of (reverse past) e
 
+-- turns after a history with one event more are those of before, that event's turn and then these
 turns_then : (e : Event) (past : List Event) (ts : List Turn) → turns (e ∷ past) ++ ts ≡ turns past ++ turn_of e ∷ ts
 turns_then e past ts = ap (λ (x : List Turn). x ++ ts) (turns_more e past) ∙ append_assoc (turns past) (turn_of e ∷ []) ts
 
+-- a history has as many turns as events
 turns_length : (past : List Event) → length (turns past) ≡ length past
 turns_length [] = refl
 turns_length (e ∷ past) =
@@ -29,6 +32,7 @@ turns_length (e ∷ past) =
 
 -- ---- what a replay that is refused says
 
+-- case: no turn is left, and the replay is refused since the run is not settled
 at_end : (s : Script) (limit n : ℕ) (past : List Event) (r : Refused) (b : Bool) → is_settled s limit past ≡ b → IsRun s limit past → n ≡ length past →
     (if b then Ok past else refused_at n Unfinished) ≡ Err r → IsUnsettled s limit (turns past ++ []) r
 at_end s limit n past r true d run m e = absurd cc
@@ -43,6 +47,7 @@ at_end s limit n past r false d run m e =
       kind = refl;
     })
 
+-- a replay refused after a run has a turn that is refused, or ends unsettled
 refused_from : (s : Script) (limit n : ℕ) (past : List Event) (ts : List Turn) (r : Refused) → IsRun s limit past → n ≡ length past →
     replayed_from s limit n past ts ≡ Err r → RefusesTurn s limit (turns past ++ ts) r ⊎ IsUnsettled s limit (turns past ++ ts) r
 refused_from s limit n past [] r run m e = inr (at_end s limit n past r (is_settled s limit past) refl run m e)
@@ -72,6 +77,7 @@ refused_from s limit n past (t ∷ ts) r run m e =
 
 -- ---- and what it is said of
 
+-- replaying the turns of a run and then others is replaying these from where the run ends
 replay_through : (s : Script) (limit : ℕ) (past : List Event) (ts : List Turn) → IsRun s limit past → replayed s limit (turns past ++ ts)
     ≡ replayed_from s limit (length past) past ts
 replay_through s limit [] ts r = refl
@@ -80,6 +86,7 @@ replay_through s limit (e ∷ past) ts r =
     ∙ (replay_through s limit past (turn_of e ∷ ts) r.1 ∙ ap
     (λ (x : Result Event ScheduleKind). goes_on (length past) x (λ e. replayed_from s limit (suc (length past)) (e ∷ past) ts)) r.0)
 
+-- if a turn of a list is refused, the replay of the list is
 refusing_back : (s : Script) (limit : ℕ) (list : List Turn) (r : Refused) → RefusesTurn s limit list r → replayed s limit list ≡ Err r
 refusing_back s limit list r h =
     let place : length h.history ≡ r.at = sym (turns_length h.history) ∙ (ap length h.turns ∙ sym h.place) in
@@ -89,6 +96,7 @@ refusing_back s limit list r h =
     h.refused
     ∙ ap (λ (n : ℕ). refused_at n r.kind) place))
 
+-- if a list of turns ends unsettled, its replay is refused
 unsettled_back : (s : Script) (limit : ℕ) (list : List Turn) (r : Refused) → IsUnsettled s limit list r → replayed s limit list ≡ Err r
 unsettled_back s limit list r h =
     let place : length h.history ≡ r.at = sym (turns_length h.history) ∙ (ap length h.turns ∙ sym h.place) in
@@ -97,6 +105,7 @@ unsettled_back s limit list r h =
     ∙ (ap (λ (b : Bool). if b then Ok h.history else refused_at (length h.history) Unfinished) h.unsettled
     ∙ (ap (λ (n : ℕ). refused_at n Unfinished) place ∙ ap (λ (k : ScheduleKind). refused_at r.at k) (sym h.kind))))
 
+-- a replay is refused exactly at its first refused turn, or at its end if the run isn't settled
 pub replays_refused : ReplaysAreRefused
 replays_refused s limit list r = ((λ e. refused_from s limit 0 [] list r tt refl e), back)
   where

@@ -38,11 +38,13 @@ use Rattle.std.proofs.lemmas.Bool.{eq-eqb, ltb-true}
 use Rattle.std.specs.Option.{option_map_or}
 use Rattle.std.specs.Prelude.{Bool, List, None, Option, Some, [], false, is_none, length, true, ℕ, ◌&&◌, ◌<◌, ◌==◌, ◌∷◌, ◌≡◌}
 
+-- the thread that an event's line shows is the one of the event
 same_field : (w : What) (r : Option ThreadNo) → thread_field w r ≡ thread_of w r
 same_field (Switch t st) r = refl
 same_field (Look k) r = refl
 same_field w r = refl
 
+-- the innermost frame has the name by which it is called
 innermost_named : (name : ℕ) (x : Frames) (f : Frame) → innermost x ≡ Some f → name ≡ f.name → IsInnermost name x
 innermost_named name x f h n = ap (λ (o : Option Frame). option_map_or (λ f. f.name == name) o false) h ∙ eq-eqb f.name name (sym n)
 
@@ -90,17 +92,21 @@ module _ (s : Script) (p : CpuNo) (x : Own) (l : Lanes) (n : ℕ) where
   replies (Acquire a) y k = tries a y k
   replies c y k = no_wait c y refl refl k
 
+-- a list of frames that passes the test for emptiness is empty
 pub null_own : (fs : List Frame) → is_null fs ≡ true → fs ≡ []
 null_own [] h = refl
 null_own (f ∷ fs) h = cc
 
 module _ (s : Script) (limit : ℕ) (e : Event) (past : List Event) (r : IsRun s limit (e ∷ past)) where
+  -- in a run all that is known of a legal event of its kind holds of an event but for a Look or a Switch
   pub known_as : (w : What) → e.what ≡ w → is_next w ≡ true → Known s e.cpu (own_of s e.cpu past) (lanes_at s past) w
   known_as w k n = subst (Known s e.cpu (own_of s e.cpu past) (lanes_at s past)) k (legal_known s limit e past r.0 (ap is_next k ∙ n))
 
+  -- a processor keeps one part of frames for each thread of the script
   pub size : length (frames_of s e.cpu past).threads ≡ length s.threads
   size = length-table_from 0 (length s.threads) (λ t. thread_frames s e.cpu (thread t) past)
 
+  -- in a run the thread of an event is the one that its kind says: the running one, or one that it names
   pub thread_is : (w : What) → e.what ≡ w → e.thread ≡ thread_field w (running e.cpu past)
   thread_is w k = thread_named s limit e past r.0 ∙ ap (λ (w : What). thread_field w (running e.cpu past)) k
 
@@ -150,6 +156,7 @@ module _ (s : Script) (limit : ℕ) (e : Event) (past : List Event) (r : IsRun s
   says_is (Gone u) k = tt
   says_is Rest k = tt
 
+  -- in a run an event is one that its processor may make, if the frames there are nested
   pub made_here : AreNested (frames_of s e.cpu past) → IsMade s e (frames_of s e.cpu past)
   made_here h = record {
     nested = h;

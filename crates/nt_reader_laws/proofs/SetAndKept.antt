@@ -12,6 +12,7 @@ flag_after true clears old = true
 flag_after false true old = false
 flag_after false false old = old
 
+-- a position at which something holds lies before the end of the history
 pub at_below : (P : Event → List Event → Type 0) (n : ℕ) (past : List Event) → At P n past → n < length past
 at_below P n [] h = absurd h
 at_below P n (e ∷ past) (inl h) = let q = h.0 in omega (arith, q)
@@ -50,5 +51,6 @@ module _ (q : List Event → Bool) (sets clears : Event → List Event → Bool)
       go false true c x y = cc
       go false false c x y = y
 
+  -- a question that starts false is true exactly where it was set and not cleared since, if each event obeys this
   pub set_and_kept : (past : List Event) → (q past ≡ true) ↔ IsSetAndKept sets clears past
   set_and_kept past = ((λ h. kept_forth past h), (λ h. kept_back past h.0 h.1 h.2))

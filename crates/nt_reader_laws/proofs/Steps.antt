@@ -200,6 +200,7 @@ module _ (s : Script) (limit : ℕ) (p : CpuNo) (past : List Event) (run : IsRun
 
 -- ---- the answers of the looks
 
+-- an answered look for a class is zero, or what is asked of that class so far
 exact_answers : (s : Script) (limit : ℕ) (p : CpuNo) (past : List Event) (answers : List ℕ) (v u : View) → p.0 < s.cpus → Follows s past v →
     AllLooked p answers v u → (k : ℕ) → (value_at answers k ≡ 0) ⊎ (value_at answers k ≡ asked s p k past)
 exact_answers s limit p past answers v u below f h k = go (nat_lt k 15) refl (is_used_class k) refl
@@ -213,15 +214,18 @@ exact_answers s limit p past answers v u below f h k = go (nat_lt k 15) refl (is
         let word : HasWord v p k = (omega (arith, below, c), omega (arith, l)) in
         inr (h.exact f.alone k l w ∙ f.value p k word)
 
+-- lanes that are told where they are known are those of the history
 found_lanes : (s : Script) (past : List Event) (o : Option Lanes) (l : Lanes) → o ≡ Some (lanes_at s past) → Tells o l → lanes_at s past ≡ l
 found_lanes s past o l h t = subst (λ (o : Option Lanes). Tells o l) h t
 
+-- the event that a local step makes is the step of the processor's turn
 pub local_steps : LocalStepsAreSteps
 local_steps s limit p past c d answers e v u w h k =
     let z : IsStepped (state_of s p limit past) d answers (LocalDid e) v u w = subst (λ (c : CpuState). IsStepped c d answers (LocalDid e) v u w) h.state k in
     local_core s limit p past h.run answers e (lt-ltb p.0 s.cpus h.cpu)
     (λ q. exact_answers s limit p past answers v u h.cpu h.follows (z.looked.looks q)) z.answer
 
+-- the event that a step on a lane makes of a chosen job is the step of the processor's turn
 pub lane_steps : LaneStepsAreSteps
 lane_steps s limit p past c d job f n e v w h uncut chosen k =
     let z : IsShared (state_of s p limit past) d job f n e v w = subst (λ (c : CpuState). IsShared c d job f n e v w) h.state k in
@@ -255,6 +259,7 @@ needs_lane_of s limit p past answers job h = go (is_cut limit (own_of s p past))
     go true q k = cc
     go false q k = (q, task_of (is_behind (own_of s p past) (value_at answers)) k)
 
+-- the event that an advance makes is the step of the processor's turn
 pub advances : AdvancesAreSteps
 advances s limit p past c d answers e v u w h looks_made k =
     go (subst (λ (c : CpuState). Advanced c d answers (λ n e st f. Unit {0}) (Did e) u w) h.state k)

@@ -56,10 +56,12 @@ WaitsTrue x now st (Call f (Delay m a units) y) = is_refused y ≡ false → y �
 WaitsTrue x now st (Rewait f y) = (w : Again) → st.again ≡ Some w → y ≡ wait_reply x st.regions st.level w.mode w.alertable (option_map (is_reached now) w.due)
 WaitsTrue x now st w = Unit {0}
 
+-- a reply that the test finds refused is a refusal
 refused_is : (y : Reply) → is_refused y ≡ true → (r : Refusal) × (y ≡ Refused r)
 refused_is (Refused r) h = (r, refl)
 refused_is y h = cc
 
+-- a refused wait leaves the thread's facts as they were
 waited_refused : (n : ℕ) (r : Regions) (level : ℕ) (m : Mode) (a delay : Bool) (y : Reply) (x : ThreadFacts) → is_refused y ≡ true →
     waited n r level m a delay y x ≡ x
 waited_refused n r level m a delay y x h =
@@ -76,6 +78,7 @@ wait_step n st m a reached y x h = go (is_refused y) refl
     go true q = waited_refused n st.regions st.level m a (is_some reached) y x q
     go false q = ap (λ (z : Reply). waited n st.regions st.level m a (is_some reached) z x) (h q)
 
+-- a wait begun again with the reply that its tests give leaves what its call leaves
 again_step : (n now f : ℕ) (st : Stand) (y : Reply) (x : ThreadFacts) (again : Option Again) →
     ((w : Again) → again ≡ Some w → y ≡ wait_reply x st.regions st.level w.mode w.alertable (option_map (is_reached now) w.due)) →
     waited_again n st.regions st.level again y x ≡ facts_left (again_act n now st again) x
@@ -88,6 +91,7 @@ again_step n now f st y x (Some w) h =
     some None = refl
     some (Some d) = refl
 
+-- an event that a thread makes leaves what its calls leave, if its waits are answered as their tests say
 made_step : (s : Script) (n now : ℕ) (st : Stand) (w : What) (x : ThreadFacts) → WaitsTrue x now st w → made_facts s n st w x
     ≡ facts_left (made_acts s n now st w) x
 made_step s n now st (Switch u status) x h = refl
@@ -117,6 +121,7 @@ abbrev InsertsTrue : Script → ThreadNo → ThreadFacts → What → Type 0
 InsertsTrue s t x (Call f (InsertApc a) Yes) = ((owner_of s a).0 == t.0) ≡ true → takes a x.apcs ≡ true
 InsertsTrue s t x w = Unit {0}
 
+-- an event that names a thread leaves what its calls leave, if each APC that it says is inserted is taken
 named_step : (s : Script) (t : ThreadNo) (n : ℕ) (w : What) (x : ThreadFacts) → InsertsTrue s t x w → named_facts s t n w x
     ≡ facts_left (named_acts s t n w) x
 named_step s t n (Call f (Release u) y) x h = go (is_answer y && (u.0 == t.0))
@@ -147,6 +152,7 @@ named_step s t n (Expire (OfDelay u) from) x h = go (u.0 == t.0)
     go false = refl
 named_step s t n w x h = refl
 
+-- what joined lists of calls leave is what the first list leaves after the second
 left-append : (xs ys : List Act) (x : ThreadFacts) → facts_left (xs ++ ys) x ≡ facts_left xs (facts_left ys x)
 left-append [] ys x = refl
 left-append (act ∷ xs) ys x = ap (after act) (left-append xs ys x)
@@ -219,13 +225,16 @@ module _ (s : Script) (limit : ℕ) (t : ThreadNo) (e : Event) (past : List Even
       go true q = made_step s (length past) (time past) (stand_at s e.cpu past) e.what (facts s t past) (waits_true q e.what refl)
       go false q = refl
 
+-- in a run each event leaves of a thread's facts what its calls leave
 pub thread_calls : ThreadEventsAreCalls
 thread_calls s limit t e past r has = event_step s limit t e past r has
 
+-- calls after those from a new thread's facts leave the facts of all calls joined
 facts-append : (xs ys : List Act) → facts_left xs (facts_of ys) ≡ facts_of (xs ++ ys)
 facts-append [] ys = refl
 facts-append (act ∷ xs) ys = ap (after act) (facts-append xs ys)
 
+-- in a run a thread's facts are what all calls of the history leave of a new thread's
 pub thread_history : ThreadHistoriesAreCalls
 thread_history s limit t [] r has = refl
 thread_history s limit t (e ∷ past) r has =

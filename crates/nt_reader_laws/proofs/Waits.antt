@@ -53,6 +53,7 @@ abbrev pub Maker : Script → ThreadNo → Event → List Event → Type 0
 Maker s t e past = ((is_switch_event e.what ≡ true) × (is_ready (facts s t past) ≡ true)) ⊎
     ((is_switch_event e.what ≡ false) × ((facts s t past).doing ≡ IsRunning))
 
+-- if a thread runs on a processor, what is said of it makes it a running one
 runs_doing : (d : Doing) (fs : List Frame) (p : CpuNo) (t : ThreadNo) (past : List Event) → Says d fs (running p past ≡ Some t) → running p past ≡ Some t →
     d ≡ IsRunning
 runs_doing IsRunning fs p t past h r = refl
@@ -61,6 +62,7 @@ runs_doing (IsBlocked w) fs p t past h r = absurd (h.0 r)
 runs_doing IsGone fs p t past h r = absurd (h.0 r)
 
 module _ (s : Script) (limit : ℕ) (t : ThreadNo) (e : Event) (past : List Event) (r : IsRun s limit (e ∷ past)) where
+  -- a thread that makes an event was ready and is taken up by it, or was running
   pub maker : is_of_thread s t e ≡ true → Maker s t e past
   maker b = go e.what refl
     where
@@ -107,11 +109,13 @@ module _ (s : Script) (limit : ℕ) (t : ThreadNo) (e : Event) (past : List Even
   doing_stays : is_of_thread s t e ≡ false → (facts s t (e ∷ past)).doing ≡ (named_facts s t (length past) e.what (facts s t past)).doing
   doing_stays b = ap (λ (x : ThreadFacts). x.doing) (facts_made s t e past false b)
 
+  -- a blocked thread is ready after an event that ends its wait, and blocked as before after any other
   pub block_after : (w : Waiting) → (facts s t past).doing ≡ IsBlocked w → (facts s t (e ∷ past)).doing ≡ doing_of (ends_it s t w e past) w
   block_after w h =
       let none : is_of_thread s t e ≡ false = idle_makes_none (ap ready_doing h) (λ k. let z = h in cc) in
       doing_stays none ∙ blocked_named s t (length past) e.what w (facts s t past) h
 
+  -- if a thread isn't blocked, only an event of its own changes what it does
   pub other_after : waiting (facts s t past) ≡ None → (facts s t (e ∷ past)).doing
       ≡ (if is_of_thread s t e then made_to (length past) (stand_at s e.cpu past) e.what (facts s t past).doing else (facts s t past).doing)
   other_after h = go (is_of_thread s t e) refl
@@ -134,6 +138,7 @@ module _ (s : Script) (limit : ℕ) (t : ThreadNo) (e : Event) (past : List Even
 
 -- ---- waiting
 
+-- a wait that begins in an event has that event's number
 block_event : (n : ℕ) (st : Stand) (what : What) (w : Waiting) → blocked_in n st what ≡ Some w → w.event ≡ n
 block_event n st (Call f (StartWait m a) Blocked) w h =
     let same : waiting_as n st (record { mode = m; alertable = a; due = None }) ≡ w = cc in ap (λ (x : Waiting). x.event) (sym same)
@@ -160,10 +165,12 @@ made_waiting n st (Rewait f Blocked) d h = go st.again
     go (Some w) = refl
 made_waiting n st what d h = h
 
+-- a thread that has a wait is blocked in it
 pub waits_of : (d : Doing) (w : Waiting) → waiting_of d ≡ Some w → d ≡ IsBlocked w
 waits_of (IsBlocked v) w h = let same : v ≡ w = cc in ap IsBlocked same
 waits_of d w h = cc
 
+-- if a thread that was blocked still waits, its wait did not end and is the same
 doing_waits : (o : Option ℕ) (v w : Waiting) → waiting_of (doing_of o v) ≡ Some w → (o ≡ None) × (v ≡ w)
 doing_waits None v w h = (refl, cc)
 doing_waits (Some st) v w h = cc
@@ -200,6 +207,7 @@ Blocks s t w e before = blocks_in s t e before ≡ Some w
 abbrev Stays : Script → ThreadNo → Waiting → Event → List Event → Type 0
 Stays s t w e before = ends_it s t w e before ≡ None
 
+-- in a run a thread that waits has an event that blocks it and none since that ends it
 waits_forth : (s : Script) (limit : ℕ) (t : ThreadNo) (w : Waiting) (past : List Event) → IsRun s limit past → waiting (facts s t past) ≡ Some w →
     IsWaiting s t w past
 waits_forth s limit t w [] r h = cc
@@ -218,6 +226,7 @@ waits_forth s limit t w (e ∷ past) r h = go (waiting (facts s t past)) refl (�
         let before = ih old in
         (inr before.0, ((λ l. stays), before.1))
 
+-- in a run a thread that an event blocks, and that none since ends, waits in that wait
 waits_back : (s : Script) (limit : ℕ) (t : ThreadNo) (w : Waiting) (past : List Event) → IsRun s limit past → At (Blocks s t w) w.event past →
     EachAfter (Stays s t w) w.event past → waiting (facts s t past) ≡ Some w
 waits_back s limit t w [] r h k = absurd h
@@ -227,20 +236,24 @@ waits_back s limit t w (e ∷ past) r (inr h) k =
     let stays : ends_it s t w e past ≡ None = k.0 (at_below (Blocks s t w) w.event past h) in
     waits_still s limit t e past r w old ∙ ap (λ (o : Option ℕ). waiting_of (doing_of o w)) stays
 
+-- in a run a thread waits exactly where an event blocked it and no later one ended the wait
 pub waits_read : (s : Script) (limit : ℕ) (t : ThreadNo) (w : Waiting) (past : List Event) → IsRun s limit past →
     (waiting (facts s t past) ≡ Some w) ↔ IsWaiting s t w past
 waits_read s limit t w past r = ((λ h. waits_forth s limit t w past r h), (λ h. waits_back s limit t w past r h.0 h.1))
 
 -- ---- ended
 
+-- a thread with the status of an ended wait neither waits nor runs
 status_doing : (d : Doing) (st : ℕ) → status_of d ≡ Some st → (waiting_of d ≡ None) × ((d ≡ IsRunning → ⊥))
 status_doing (IsReady level o) st h = (refl, λ k. cc)
 status_doing d st h = cc
 
+-- the status of a thread whose wait may have ended is the one with which it ended
 doing_ended : (o : Option ℕ) (v : Waiting) (st : ℕ) → status_of (doing_of o v) ≡ Some st → o ≡ Some st
 doing_ended None v st h = cc
 doing_ended (Some k) v st h = h
 
+-- a thread that was running has no status of an ended wait after its own event
 made_status : (n : ℕ) (st : Stand) (what : What) → status_of (made_to n st what IsRunning) ≡ None
 made_status n st (Switch u status) = refl
 made_status n st (Gone u) = refl
@@ -294,6 +307,7 @@ Ends s t w st e before = IsWaiting s t w before × (ends_it s t w e before ≡ S
 abbrev NotTaken : Script → ThreadNo → Event → List Event → Type 0
 NotTaken s t e before = takes_up s t e ≡ false
 
+-- in a run a thread with the status of an ended wait has an event that ended it, and was not taken up since
 ended_forth : (s : Script) (limit : ℕ) (t : ThreadNo) (st : ℕ) (past : List Event) → IsRun s limit past → ended_status (facts s t past) ≡ Some st →
     IsEnded s t st past
 ended_forth s limit t st [] r h = cc
@@ -316,6 +330,7 @@ ended_forth s limit t st (e ∷ past) r h = go (waiting (facts s t past)) refl (
         )
     go None k more = still k more (is_of_thread s t e) refl
 
+-- in a run a thread whose wait an event ended, and that was not taken up since, has that status
 ended_back : (s : Script) (limit : ℕ) (t : ThreadNo) (st : ℕ) (w : Waiting) (m : ℕ) (past : List Event) → IsRun s limit past → At (Ends s t w st) m past →
     EachAfter (NotTaken s t) m past → ended_status (facts s t past) ≡ Some st
 ended_back s limit t st w m [] r h k = absurd h
@@ -327,20 +342,24 @@ ended_back s limit t st w m (e ∷ past) r (inr h) k =
     let none : is_of_thread s t e ≡ false = status_makes_none s limit t e past r st old (k.0 (at_below (Ends s t w st) m past h)) in
     other_status s limit t e past r (status_doing (facts s t past).doing st old).0 none ∙ old
 
+-- in a run a thread has a status exactly where a wait of it ended so and it wasn't taken up since
 pub ended_read : (s : Script) (limit : ℕ) (t : ThreadNo) (st : ℕ) (past : List Event) → IsRun s limit past →
     (ended_status (facts s t past) ≡ Some st) ↔ IsEnded s t st past
 ended_read s limit t st past r = ((λ h. ended_forth s limit t st past r h), (λ h. ended_back s limit t st h.0 h.1 past r h.2 h.3))
 
 -- ---- gone
 
+-- a thread that the test finds gone is gone
 gone_doing_is : (d : Doing) → gone_doing d ≡ true → d ≡ IsGone
 gone_doing_is IsGone h = refl
 gone_doing_is d h = cc
 
+-- an event that ends a thread is the one that says that this thread is gone
 gone_event_is : (t : ThreadNo) (w : What) → ends_thread t w ≡ true → w ≡ Gone t
 gone_event_is t (Gone u) h = ap (λ (n : ℕ). Gone (record { 0 = n })) (eqb-true u.0 t.0 h)
 gone_event_is t w h = cc
 
+-- a thread that is gone after its own event was gone, or the event is one of going
 made_gone : (n : ℕ) (st : Stand) (what : What) (d : Doing) → gone_doing (made_to n st what d) ≡ true → (is_gone_event what ≡ true) ⊎ (d ≡ IsGone)
 made_gone n st (Switch u status) d h = cc
 made_gone n st (Gone u) d h = inl refl
@@ -354,6 +373,7 @@ made_gone n st (Rewait f Blocked) d h = go st.again h
     go (Some w) k = cc
 made_gone n st what d h = inr (gone_doing_is d h)
 
+-- a thread that is gone neither waits nor is ready
 gone_waits_not : (d : Doing) → gone_doing d ≡ true → (waiting_of d ≡ None) × (ready_doing d ≡ false)
 gone_waits_not IsGone h = (refl, refl)
 gone_waits_not d h = cc
@@ -427,6 +447,7 @@ module _ (s : Script) (limit : ℕ) (t : ThreadNo) (e : Event) (past : List Even
       ap (λ (x : ThreadFacts). is_gone x) (facts_made s t e past true b)
       ∙ ap (λ (v : What). is_gone (named_facts s t (length past) v (made_facts s (length past) (stand_at s e.cpu past) v (facts s t past)))) w
 
+-- in a run a thread that is gone has an event by which it went
 gone_forth : (s : Script) (limit : ℕ) (t : ThreadNo) (past : List Event) → IsRun s limit past → is_gone (facts s t past) ≡ true → HasGone t past
 gone_forth s limit t [] r h = cc
 gone_forth s limit t (e ∷ past) r h = go (is_gone (facts s t past)) refl (λ k. gone_forth s limit t past r.1 k)
@@ -435,11 +456,13 @@ gone_forth s limit t (e ∷ past) r h = go (is_gone (facts s t past)) refl (λ k
     go true k ih = inr (ih k)
     go false k ih = inl (gone_anew s limit t e past r k h)
 
+-- in a run a thread that an event says is gone is gone
 gone_back : (s : Script) (limit : ℕ) (t : ThreadNo) (past : List Event) → IsRun s limit past → HasGone t past → is_gone (facts s t past) ≡ true
 gone_back s limit t [] r h = absurd h
 gone_back s limit t (e ∷ past) r (inl h) = gone_now s limit t e past r h
 gone_back s limit t (e ∷ past) r (inr h) = gone_stays s limit t e past r (gone_back s limit t past r.1 h)
 
+-- in a run a thread's wait, the status of its ended wait and that it is gone are read off the events
 pub waits_are_read : WaitsAreRead
 waits_are_read s limit t past r = record {
   waits = λ w. waits_read s limit t w past r;
@@ -458,6 +481,7 @@ switch_tells s limit t e past carried r w =
     let same : ended_status (facts_at (lanes_at s past) t) ≡ carried = cc in
     sym same ∙ ap ended_status (facts_there s limit t past has.0)
 
+-- in a run a Switch carries a status exactly where the thread's wait ended so and it wasn't taken up since
 pub switches_carry : SwitchesCarryTheStatus
 switches_carry s limit t e past carried r w st =
     let told : carried ≡ ended_status (facts s t past) = switch_tells s limit t e past carried r w in

@@ -32,11 +32,13 @@ use Rattle.nt_readings.proofs.Pending.{none_yet}
 abbrev pub ApcReads : ApcNo → ℕ → List Event → Type 0
 ApcReads a n past = IsApcInsertedAt a n past × NoneUsesUp (ApcThing a) n past
 
+-- an event that puts an insert of an APC at a thread inserts that APC as a thing
 put_thing : (s : Script) (t : ThreadNo) (n : ℕ) (a : ApcNo) (w : What) (x : Pick) → PutsPick s t n w x → x.apc ≡ a → inserted_thing w ≡ Some (ApcThing a)
 put_thing s t n a (Call f (InsertApc b) Yes) x h i =
     ap (λ (b : ApcNo). Some (ApcThing b)) (ap (λ (x : Pick). x.apc) (sym h.1) ∙ i)
 put_thing s t n a w x h i = absurd h
 
+-- in a run a pending insert of an APC was made by the event of its number and not used up since
 picks_read : (s : Script) (limit : ℕ) (a : ApcNo) (past : List Event) (x : Pick) → IsRun s limit past → Contains (facts s (owner_of s a) past).apcs.pending x →
     x.apc ≡ a → ApcReads a x.number past
 picks_read s limit a [] x r h i = contains_none x h
@@ -53,6 +55,7 @@ picks_read s limit a (e ∷ past) x r h i =
 
 -- ---- what was inserted and not used up is pending
 
+-- an insert of an APC of another number passes the test for not being of this APC
 not_of : (b : ApcNo) (x : Pick) → (x.apc.0 == b.0) ≡ false → not (is_of_apc b x) ≡ true
 not_of b x h = rw h refl
 
@@ -71,6 +74,7 @@ differs s limit a b past x from r has c i k u = go (x.apc.0 == b.0) refl
         (x, c, i, refl)).1 in
         absurd (both_ways ((b.0 == a.0) && (from == x.number)) u (rw (eq-eqb b.0 a.0 same, eq-eqb from x.number number) refl))
 
+-- a pending insert of an APC stays after a call, of whichever thread, that doesn't use it up
 named_stays : (s : Script) (a : ApcNo) (t : ThreadNo) (n : ℕ) (w : What) (xs : List Pick) (x : Pick) → Contains xs x → x.apc ≡ a →
     uses_up (ApcThing a) x.number w ≡ false → Contains (named_picks s t n w xs) x
 named_stays s a t n (Call f (InsertApc b) Yes) xs x c i u = go ((owner_of s b).0 == t.0)
@@ -90,6 +94,7 @@ named_stays s a t n (Call f (RemoveApc b) Yes) xs x c i u = go ((owner_of s b).0
     go false = c
 named_stays s a t n w xs x c i u = c
 
+-- in a run a pending insert of an APC stays pending after an event that doesn't use it up
 pick_stays : (s : Script) (limit : ℕ) (a : ApcNo) (e : Event) (past : List Event) (x : Pick) → IsRun s limit (e ∷ past) → has_thread s (owner_of s a) ≡ true →
     Contains (facts s (owner_of s a) past).apcs.pending x → x.apc ≡ a → uses_up (ApcThing a) x.number e.what ≡ false →
     Contains (facts s (owner_of s a) (e ∷ past)).apcs.pending x
@@ -115,14 +120,17 @@ pick_stays s limit a e past x r has c i u =
     mine true = made e.what refl u
     mine false = c
 
+-- an event that inserted an APC has a number below the length of the history
 apc_before : (a : ApcNo) (n : ℕ) (past : List Event) → IsApcInsertedAt a n past → n < length past
 apc_before a n [] h = absurd h
 apc_before a n (e ∷ past) (inl h) = let k = h.0 in omega (arith, k)
 apc_before a n (e ∷ past) (inr h) = let k = apc_before a n past h in omega (arith, k)
 
+-- a DPC as a thing isn't an APC as a thing
 dpc_isnt_apc : (d : DpcNo) (a : ApcNo) → ◌≡◌ {A = Option Thing} (Some (DpcThing d)) (Some (ApcThing a)) → ⊥
 dpc_isnt_apc d a h = cc
 
+-- an event that inserts nothing doesn't insert some thing
 none_isnt_some : (x : Thing) → ◌≡◌ {A = Option Thing} None (Some x) → ⊥
 none_isnt_some x h = cc
 
@@ -142,6 +150,7 @@ new_pending s a n m (Call f (Queue d) Yes) xs h = absurd (dpc_isnt_apc d a h)
 new_pending s a n m (Fire d Yes) xs h = absurd (dpc_isnt_apc d a h)
 new_pending s a n m w xs h = absurd (none_isnt_some (ApcThing a) h)
 
+-- in a run an insert of an APC that was made and not used up since is pending at its owner
 inserted_pending : (s : Script) (limit : ℕ) (a : ApcNo) (past : List Event) → IsRun s limit past → has_thread s (owner_of s a) ≡ true → (n : ℕ) →
     IsApcInsertedAt a n past → NoneUsesUp (ApcThing a) n past → ApcIsPending s (owner_of s a) a n past
 inserted_pending s limit a [] r has n h u = absurd h
@@ -161,6 +170,7 @@ inserted_pending s limit a (e ∷ past) r has n (inr h) u =
       ih.3,
     )
 
+-- in a run an insert of an APC is pending at its owner exactly where it was made and not used up later
 pub pending_apc_reads : (s : Script) (limit : ℕ) (a : ApcNo) (past : List Event) → IsRun s limit past → has_thread s (owner_of s a) ≡ true → (n : ℕ) →
     ApcIsPending s (owner_of s a) a n past ↔ ApcReads a n past
 pending_apc_reads s limit a past r has n =

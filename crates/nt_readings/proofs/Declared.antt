@@ -77,9 +77,11 @@ before_apcs s = before_threads s && list_all (thread_fits s) s.threads
 abbrev before_routines : Script → Bool
 before_routines s = before_apcs s && list_all (apc_fits s) s.apcs
 
+-- each routine of a script that fits fits itself
 routines_fit : (s : Script) → fits s ≡ true → list_all (routine_fits s) s.routines ≡ true
 routines_fit s h = (both (before_routines s) (list_all (routine_fits s) s.routines) h).1
 
+-- each timer of a script that fits fits itself
 timers_fit : (s : Script) → fits s ≡ true → list_all (timer_fits s) s.timers ≡ true
 timers_fit s h =
     let a = (both (before_routines s) (list_all (routine_fits s) s.routines) h).0 in
@@ -89,16 +91,19 @@ timers_fit s h =
 
 -- ---- commands
 
+-- each command of a routine of a script that fits names only objects of the script
 routine_commands : (s : Script) (i : ℕ) (o : Option Routine) (r : RoutineNo) (c : Command) → fits s ≡ true → slice_get s.routines r.0 ≡ o →
     slice_get (option_map_or (λ x. x.commands) o []) i ≡ Some c → command_fits s c ≡ true
 routine_commands s i None r c h q k = all_get (command_fits s) [] i c refl k
 routine_commands s i (Some x) r c h q k =
     all_get (command_fits s) x.commands i c (all_get (routine_fits s) s.routines r.0 x (routines_fit s h) q) k
 
+-- each command of an optional routine of a script that fits names only objects of the script
 commands_fit : (s : Script) (i : ℕ) (o : Option RoutineNo) (c : Command) → fits s ≡ true → slice_get (commands_of s o) i ≡ Some c → command_fits s c ≡ true
 commands_fit s i None c h k = all_get (command_fits s) [] i c refl k
 commands_fit s i (Some r) c h k = routine_commands s i (slice_get s.routines r.0) r c h refl k
 
+-- the next command of a frame, in a script that fits, names only objects of the script
 next_fits : (s : Script) (p : CpuNo) (f : Frame) (c : Command) → fits s ≡ true → next_command s p f ≡ Some c → command_fits s c ≡ true
 next_fits s p f c h k = go f.leaving k
   where
@@ -106,6 +111,7 @@ next_fits s p f c h k = go f.leaving k
     go true q = cc
     go false q = commands_fit s f.place (routine_of s p f.body f.kernel_phase) c h q
 
+-- in a run of a script that fits, each command that is called names only objects of the script
 pub calls_fit : (s : Script) (limit : ℕ) (e : Event) (past : List Event) (f : ℕ) (c : Command) (y : Reply) → IsRun s limit (e ∷ past) → fits s ≡ true → e.what
     ≡ Call f c y → command_fits s c ≡ true
 calls_fit s limit e past f c y r h k =
@@ -115,6 +121,7 @@ calls_fit s limit e past f c y r h k =
 
 -- ---- expired timers
 
+-- the DPC of a timer of a script that fits is one of the script's
 timer_dpc : (s : Script) (t : TimerNo) (d : DpcNo) → fits s ≡ true → dpc_of s t ≡ Some d → has_dpc s d ≡ true
 timer_dpc s t d h k = go (slice_get s.timers t.0) refl k
   where
@@ -126,6 +133,7 @@ timer_dpc s t d h k = go (slice_get s.timers t.0) refl k
     go None i q = cc
     go (Some x) i q = given x.dpc (all_get (timer_fits s) s.timers t.0 x (timers_fit s h) i) q
 
+-- the DPC that an expired timer has yet to fire, in a script that fits, is one of the script's
 fire_known : (s : Script) (p : CpuNo) (past : List Event) (d : DpcNo) → fits s ≡ true → fire s p past ≡ Some d → has_dpc s d ≡ true
 fire_known s p [] d h k = cc
 fire_known s p (e ∷ past) d h k = go (is_of e p) k (λ q. fire_known s p past d h q)
@@ -143,6 +151,7 @@ fire_known s p (e ∷ past) d h k = go (is_of e p) k (λ q. fire_known s p past 
 
 -- ---- inserts
 
+-- in a run of a script that fits, the thing that the newest event inserts is known to the script
 insert_known : (s : Script) (limit : ℕ) (thing : Thing) (e : Event) (past : List Event) → IsRun s limit (e ∷ past) → fits s ≡ true → inserted_thing e.what
     ≡ Some thing → is_known s thing ≡ true
 insert_known s limit thing e past r h k = go e.what refl k
@@ -160,6 +169,7 @@ insert_known s limit thing e past r h k = go e.what refl k
         is_it (DpcThing d) q (fire_known s e.cpu past d h known.0)
     go w i q = cc
 
+-- in a run of a script that fits, the thing that any event inserted is known to the script
 inserts_known : (s : Script) (limit : ℕ) (thing : Thing) (n : ℕ) (past : List Event) → IsRun s limit past → fits s ≡ true → IsInsert thing n past →
     is_known s thing ≡ true
 inserts_known s limit thing n [] r h k = absurd k
@@ -168,6 +178,7 @@ inserts_known s limit thing n (e ∷ past) r h (inr k) = inserts_known s limit t
 
 -- ---- what is pending was inserted
 
+-- what is in a queue after a DPC was dropped from it was in it before
 dropped_from : (p by : CpuNo) (w : What) (o : Option DpcNo) (objects : List ObjectState) (xs : List Insert) (x : Insert) →
     Contains (drop_insert p by w o objects xs) x → Contains xs x
 dropped_from p by w None objects xs x h = h
@@ -177,6 +188,7 @@ dropped_from p by w (Some d) objects xs x h = go (is_queue (left_queue by w (obj
     go true k = (kept_contains _ xs x k).0
     go false k = k
 
+-- what is in a queue after an event added to it is of the DPC added or was in it before
 added_from : (s : Script) (p : CpuNo) (n : ℕ) (by : CpuNo) (o : Option DpcNo) (objects : List ObjectState) (xs : List Insert) (x : Insert) →
     Contains (add_insert s p n by o objects xs) x → (o ≡ Some x.dpc) ⊎ Contains xs x
 added_from s p n by None objects xs x h = inr h
@@ -193,6 +205,7 @@ added_from s p n by (Some d) objects xs x h = go ((queue_for (object_in objects 
 abbrev IsInserted : Thing → List Event → Type 0
 IsInserted thing past = (n : ℕ) × IsInsert thing n past
 
+-- a DPC that is pending in a queue was inserted by some event
 pending_inserted : (s : Script) (p : CpuNo) (past : List Event) (x : Insert) → Contains (pending s p past) x → IsInserted (DpcThing x.dpc) past
 pending_inserted s p [] x h = contains_none x h
 pending_inserted s p (e ∷ past) x h =
@@ -206,10 +219,12 @@ pending_inserted s p (e ∷ past) x h =
         let a = ih (dropped_from p e.cpu e.what (used_up_dpc e.what) (objects_at s past) (pending s p past) x k) in
         (a.0, inr a.1)
 
+-- an event that puts an insert at a thread inserts the APC of that insert
 put_thing : (s : Script) (t : ThreadNo) (n : ℕ) (w : What) (x : Pick) → PutsPick s t n w x → inserted_thing w ≡ Some (ApcThing x.apc)
 put_thing s t n (Call f (InsertApc b) Yes) x h = ap (λ (x : Pick). Some (ApcThing x.apc)) (sym h.1)
 put_thing s t n w x h = absurd h
 
+-- an APC that is pending at a thread was inserted by some event
 picks_inserted : (s : Script) (t : ThreadNo) (past : List Event) (x : Pick) → Contains (facts s t past).apcs.pending x → IsInserted (ApcThing x.apc) past
 picks_inserted s t [] x h = contains_none x h
 picks_inserted s t (e ∷ past) x h =
@@ -220,12 +235,14 @@ picks_inserted s t (e ∷ past) x h =
       | inr there ↦ let a = picks_inserted s t past x there in (a.0, inr a.1)
     ]
 
+-- in a run of a script that fits, a pending DPC is one of the script's
 dpc_known : (s : Script) (limit : ℕ) (p : CpuNo) (d : DpcNo) (n : ℕ) (past : List Event) → IsRun s limit past → fits s ≡ true → DpcIsPending s p d n past →
     has_dpc s d ≡ true
 dpc_known s limit p d n past r h k =
     let a = pending_inserted s p past k.0 k.1 in
     ap (has_dpc s) (sym k.2) ∙ inserts_known s limit (DpcThing k.0.dpc) a.0 past r h a.1
 
+-- in a run of a script that fits, the owner of a pending APC is a thread of the script
 apc_known : (s : Script) (limit : ℕ) (t : ThreadNo) (a : ApcNo) (n : ℕ) (past : List Event) → IsRun s limit past → fits s ≡ true → ApcIsPending s t a n past →
     has_thread s (owner_of s a) ≡ true
 apc_known s limit t a n past r h k =
@@ -234,6 +251,7 @@ apc_known s limit t a n past r h k =
 
 -- ---- of every object
 
+-- in a run of a script that fits, the laws over inserts hold of every DPC and APC object
 pub holds_of_each : (s : Script) (limit : ℕ) (past : List Event) → IsRun s limit past → fits s ≡ true → HoldsOfEach s past
 holds_of_each s limit past r h =
     record {

@@ -22,6 +22,7 @@ use Rattle.nt_event.proofs.Elements.{found_contains, or_gives}
 abbrev IsKernelKind : ApcKind → Type 0
 IsKernelKind k = (same_kind SpecialApc k ≡ true) ⊎ (same_kind NormalApc k ≡ true)
 
+-- the first kernel APC of a thread is of a kernel kind, special or normal
 kernel_kind : (q : ApcQueues) (x : Pick) → first_kernel q ≡ Some x → IsKernelKind x.kind
 kernel_kind q x h =
     elim (or_gives (find (is_of_kind SpecialApc) (reverse q.pending)) (find (is_of_kind NormalApc) (reverse q.pending)) x h) [
@@ -29,11 +30,13 @@ kernel_kind q x h =
       | inr k ↦ inr (found_contains (is_of_kind NormalApc) (reverse q.pending) x k).1
     ]
 
+-- regions that let an APC through have no guarded region entered
 guard_clear : (r : Regions) (k : ApcKind) → lets_through r k ≡ true → r.guard ≡ 0
 guard_clear r SpecialApc h = eqb-true r.guard 0 h
 guard_clear r NormalApc h = eqb-true r.guard 0 (both (r.guard == 0) _ h).0
 guard_clear r UserApc h = eqb-true r.guard 0 (both (r.guard == 0) _ h).0
 
+-- regions that let a normal APC through have no critical region entered and no normal APC in progress
 normal_clear : (r : Regions) (k : ApcKind) → lets_through r k ≡ true → same_kind NormalApc k ≡ true → (r.crit ≡ 0) × (r.busy ≡ false)
 normal_clear r NormalApc h q =
     let a = both (r.crit == 0) (not r.busy) (both (r.guard == 0) _ h).1 in
@@ -41,6 +44,7 @@ normal_clear r NormalApc h q =
 normal_clear r SpecialApc h q = cc
 normal_clear r UserApc h q = cc
 
+-- regions let a kernel APC through if none is guarded and, for a normal one, none is critical or busy
 lets_so : (r : Regions) (k : ApcKind) → IsKernelKind k → r.guard ≡ 0 → (same_kind NormalApc k ≡ true → (r.crit ≡ 0) × (r.busy ≡ false)) → lets_through r k
     ≡ true
 lets_so r SpecialApc h g n = eq-eqb r.guard 0 g
@@ -54,6 +58,7 @@ lets_so r NormalApc h g n =
 lets_so r UserApc (inl h) g n = cc
 lets_so r UserApc (inr h) g n = cc
 
+-- the first kernel APC is deliverable exactly where level 0, the regions and APCs in progress let it through
 pub deliverable_by_regions : (s : Script) (t : ThreadNo) (past : List Event) (fs : List Frame) (x : Pick) →
     (deliverable (facts s t past).apcs (regions_of fs) (level_of fs) ≡ Some x) ↔ IsDeliverable s t past fs x
 deliverable_by_regions s t past fs x = (λ h. forth (first_kernel (facts s t past).apcs) refl h, back)

@@ -23,11 +23,13 @@ use Rattle.nt_runs.proofs.Falling.{falls_from, falls_kept, last_least, none_last
 
 -- ---- the numbers fall
 
+-- the numbers of the pending APCs still fall after the thread's own event begins or flushes one
 made_fall : (n : ℕ) (w : What) (xs : List Pick) → PicksFall n xs → PicksFall n (made_picks w xs)
 made_fall n (Begin (Apc a) from) xs f = falls_kept Pick (λ (x : Pick). x.number) n _ xs f
 made_fall n (Flush a from) xs f = falls_kept Pick (λ (x : Pick). x.number) n _ xs f
 made_fall n w xs f = f
 
+-- the numbers of the pending APCs still fall after a call inserts or removes one
 named_fall : (s : Script) (t : ThreadNo) (n : ℕ) (w : What) (xs : List Pick) → PicksFall n xs → PicksFall (suc n) (named_picks s t n w xs)
 named_fall s t n (Call f (InsertApc a) Yes) xs h = go ((owner_of s a).0 == t.0)
   where
@@ -41,6 +43,7 @@ named_fall s t n (Call f (RemoveApc a) Yes) xs h = go ((owner_of s a).0 == t.0)
     go false = falls_from Pick (λ (x : Pick). x.number) n (suc n) xs (omega arith) h
 named_fall s t n w xs h = falls_from Pick (λ (x : Pick). x.number) n (suc n) xs (omega arith) h
 
+-- the pending APCs of a thread stand by falling numbers, each that of an earlier event
 pub picks_fall : (s : Script) (t : ThreadNo) (past : List Event) → PicksFall (length past) (facts s t past).apcs.pending
 picks_fall s t [] = tt
 picks_fall s t (e ∷ past) =
@@ -55,11 +58,13 @@ picks_fall s t (e ∷ past) =
 
 -- ---- the firsts
 
+-- the pending APC of a kind that is found from the oldest on has the least number of its kind
 of_kind : (kind : ApcKind) (n : ℕ) (xs : List Pick) (x : Pick) → PicksFall n xs → find (is_of_kind kind) (reverse xs) ≡ Some x → IsLeastOfKind kind xs x
 of_kind kind n xs x f e =
     let found = found_contains (is_of_kind kind) (reverse xs) x e in
     (reversed_contains xs x found.0, found.1, λ y c t. last_least Pick (λ (x : Pick). x.number) (is_of_kind kind) n xs x y f e c t)
 
+-- the user APC that is found from the oldest on is the first user APC
 user_reads : (n : ℕ) (xs : List Pick) → PicksFall n xs → IsFirstUser xs (find (is_of_kind UserApc) (reverse xs))
 user_reads n xs f = go (find (is_of_kind UserApc) (reverse xs)) refl
   where
@@ -67,6 +72,7 @@ user_reads n xs f = go (find (is_of_kind UserApc) (reverse xs)) refl
     go None e = λ y c. none_last Pick (λ (x : Pick). x.number) (is_of_kind UserApc) xs y e c
     go (Some x) e = of_kind UserApc n xs x f e
 
+-- the oldest special APC, else the oldest normal one, is the first kernel APC
 kernel_reads : (n : ℕ) (xs : List Pick) → PicksFall n xs →
     IsFirstKernel xs (option_or (find (is_of_kind SpecialApc) (reverse xs)) (find (is_of_kind NormalApc) (reverse xs)))
 kernel_reads n xs f = go (find (is_of_kind SpecialApc) (reverse xs)) refl
@@ -82,6 +88,7 @@ kernel_reads n xs f = go (find (is_of_kind SpecialApc) (reverse xs)) refl
     go None e = normal (find (is_of_kind NormalApc) (reverse xs)) e refl
     go (Some x) e = inl (of_kind SpecialApc n xs x f e)
 
+-- the first kernel APC and the first user APC of a thread are those of least number, a special one first
 pub firsts_by_number : (s : Script) (t : ThreadNo) (past : List Event) → IsFirstKernel (facts s t past).apcs.pending (first_kernel (facts s t past).apcs) ×
     IsFirstUser (facts s t past).apcs.pending (first_user (facts s t past).apcs)
 firsts_by_number s t past = (

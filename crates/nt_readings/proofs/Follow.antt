@@ -39,6 +39,7 @@ use Rattle.nt_readings.proofs.Frames.{IsOwnBegin, IsThreadBegin, at_both, each_m
 use Rattle.nt_readings.proofs.Frames.{thread_falls}
 use Rattle.nt_readings.proofs.Threads.{part_moves, part_of, part_same}
 
+-- numbers that differ fail the test of equality
 pub not_equal : (m n : ℕ) → (m ≡ n → ⊥) → (m == n) ≡ false
 not_equal m n h = go (m == n) refl
   where
@@ -91,6 +92,7 @@ pub record Follows (s : Script) (limit : ℕ) (P : List Event → Frame → Type
 abbrev pub HeadIs : Frame → List Frame → Type 0
 HeadIs f fs = (rest : List Frame) × (fs ≡ f ∷ rest)
 
+-- a frame that is the head of a list is followed there by the rest of the list
 head_is : (fs : List Frame) (f : Frame) → head_of fs ≡ Some f → HeadIs f fs
 head_is [] f h = cc
 head_is (g ∷ fs) f h = let same : g ≡ f = cc in (fs, ap (λ (x : Frame). x ∷ fs) same)
@@ -98,6 +100,7 @@ head_is (g ∷ fs) f h = let same : g ≡ f = cc in (fs, ap (λ (x : Frame). x �
 abbrev pub IsNamer : Script → CpuNo → List Event → Frame → Type 0
 IsNamer s q past f = HeadIs f (own_frames q past) ⊎ ((u : ThreadNo) × (running q past ≡ Some u) × HeadIs f (thread_frames s q u past))
 
+-- in a run the innermost frame of a processor heads its own part or that of the thread that runs there
 pub namer : (s : Script) (limit : ℕ) (q : CpuNo) (past : List Event) (f : Frame) → IsRun s limit past → innermost (frames_of s q past) ≡ Some f →
     IsNamer s q past f
 namer s limit q past f r h = go (own_frames q past) refl
@@ -129,11 +132,13 @@ inner_has s limit q past P f r own threads inner = go (namer s limit q past f r 
         let cpu : cpu_of s h.0 ≡ q = ap (λ (n : ℕ). record { 0 = n }) here.1 in
         (subst (EachFrame P) h.2.1 (subst (λ (p : CpuNo). EachFrame P (thread_frames s p h.0 past)) cpu (threads h.0))).0
 
+-- a Switch is to one thread only
 same_switch : (u t : ThreadNo) (w : What) → switches_to u w ≡ true → switches_to t w ≡ true → u ≡ t
 same_switch u t (Switch v st) h k =
     ap (λ (n : ℕ). record { 0 = n }) (sym (eqb-true v.0 u.0 h) ∙ eqb-true v.0 t.0 k)
 same_switch u t w h k = cc
 
+-- one event doesn't begin frames of two threads
 threads_apart : (s : Script) (u t : ThreadNo) (past : List Event) (n : ℕ) (b c : Body) → (u ≡ t → ⊥) → IsThreadBegin s u past n b →
     IsThreadBegin s t past n c → ⊥
 threads_apart s u t past n b c d (inl h) (inl k) =
@@ -158,6 +163,7 @@ NamesNone n fs = EachNamed (λ m b. m ≡ n → ⊥) fs
 abbrev Names : Script → ThreadNo → Event → List Event → Frame → Type 0
 Names s t e past f = ((is_by e t ≡ true) × HeadIs f (part_of s t past)) ⊎ NamesNone f.name (part_of s t past)
 
+-- in a run the innermost frame of an event's processor heads the thread's frames or is none of them
 named_or_not : (s : Script) (limit : ℕ) (t : ThreadNo) (e : Event) (past : List Event) (f : Frame) → IsRun s limit past → innermost (frames_of s e.cpu past)
     ≡ Some f → e.thread ≡ running e.cpu past → Names s t e past f
 named_or_not s limit t e past f r h w = go (namer s limit e.cpu past f r h)
@@ -190,6 +196,7 @@ named_or_not s limit t e past f r h w = go (namer s limit e.cpu past f r h)
 abbrev OwnNames : Script → CpuNo → Event → List Event → Frame → Type 0
 OwnNames s p e past f = ((is_of e p ≡ true) × HeadIs f (own_frames p past)) ⊎ NamesNone f.name (own_frames p past)
 
+-- in a run the innermost frame of an event's processor heads a processor's own frames or is none of them
 own_named_or_not : (s : Script) (limit : ℕ) (p : CpuNo) (e : Event) (past : List Event) (f : Frame) → IsRun s limit past → innermost (frames_of s e.cpu past)
     ≡ Some f → OwnNames s p e past f
 own_named_or_not s limit p e past f r h = go (namer s limit e.cpu past f r h)
@@ -216,14 +223,17 @@ own_named_or_not s limit p e past f r h = go (namer s limit e.cpu past f r h)
 
 -- ---- lists that an event doesn't change
 
+-- changing the frame of a name leaves a list with no frame of that name as it was
 at_name_other : (n : ℕ) (g : Frame → Frame) (fs : List Frame) → NamesNone n fs → at_name n g fs ≡ fs
 at_name_other n g [] h = refl
 at_name_other n g (f ∷ fs) h = ap (λ (b : Bool). (if b then g f else f) ∷ fs) (not_equal f.name n h.0)
 
+-- ending the frame of a name on a thread leaves a list with no frame of that name as it was
 end_other : (n : ℕ) (fs : List Frame) → NamesNone n fs → end_on_thread n fs ≡ fs
 end_other n [] h = refl
 end_other n (f ∷ fs) h = ap (λ (b : Bool). if b then (if is_base_body f.body then (ended_base f ∷ fs) else fs) else (f ∷ fs)) (not_equal f.name n h.0)
 
+-- removing the frame of a name leaves a list with no frame of that name as it was
 without_other : (n : ℕ) (fs : List Frame) → NamesNone n fs → without n fs ≡ fs
 without_other n [] h = refl
 without_other n (f ∷ fs) h = ap (λ (b : Bool). if b then fs else (f ∷ fs)) (not_equal f.name n h.0)
@@ -236,6 +246,7 @@ others w n fs k h =
     same : (v : ℕ) → names w ≡ Some v → v ≡ n
     same v q = let z : Some v ≡ Some n = sym q ∙ k in cc
 
+-- what holds of each name below a bound holds of each frame of a list whose names fall from that bound
 below_each : (n : ℕ) (P : ℕ → Body → Type 0) (fs : List Frame) → NamesFall n fs → ((m : ℕ) (b : Body) → m < n → P m b) → EachNamed P fs
 below_each n P [] f h = tt
 below_each n P (x ∷ fs) f h =
@@ -249,6 +260,7 @@ lower w f fs k h =
     same : (v : ℕ) → names w ≡ Some v → v ≡ f.name
     same v q = let z : Some v ≡ Some f.name = sym q ∙ k in cc
 
+-- an event that names no frame leaves each frame of a list aside
 none_named : (w : What) (fs : List Frame) → names w ≡ None → EachNamed (λ m b. IsAside m w) fs
 none_named w [] k = tt
 none_named w (f ∷ fs) k = (λ v q e. none v (sym k ∙ q), none_named w fs k)
@@ -430,6 +442,7 @@ module _ (s : Script) (limit : ℕ) (P : List Event → Frame → Type 0) (k : F
           at_frame x.frame n x.name (ap names q) (named_or_not s limit t e past x.frame r.1 x.goes_on.inner (by_running (End n) q refl))
       go w q = none_named e.what (part_of s t past) (ap names q)
 
+  -- in a run, what each event keeps true of frames holds of each frame on a thread's part
   pub each_part : (t : ThreadNo) (past : List Event) → IsRun s limit past → EachFrame (P past) (part_of s t past)
   each_part t [] r = tt
   each_part t (e ∷ past) r = go (is_by e t) refl (each_part t past r.1)
@@ -539,6 +552,7 @@ module _ (s : Script) (limit : ℕ) (P : List Event → Frame → Type 0) (k : F
       go false w q o = quiet w q refl
       go true w q o = quiet w q refl
 
+  -- in a run, what each event keeps true of frames holds of each frame on a processor's own part
   pub each_own : (p : CpuNo) (past : List Event) → IsRun s limit past → EachFrame (P past) (own_frames p past)
   each_own p [] r = tt
   each_own p (e ∷ past) r = own_kept p e past (is_of e p) r refl (each_own p past r.1)

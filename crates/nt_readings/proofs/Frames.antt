@@ -42,27 +42,34 @@ pub record Keeping (g : Frame → Frame) : Type 0 where
   pub name : (f : Frame) → (g f).name ≡ f.name
   pub body : (f : Frame) → (g f).body ≡ f.body
 
+-- a call keeps the name and the body of its frame
 pub keep_called : (due : Option ℕ) (c : Command) (y : Reply) → Keeping (called due c y)
 keep_called due c y = record { name = called_name due c y; body = called_body due c y }
 
+-- a wait that is taken up again keeps the name and the body of its frame
 pub keep_rewaited : (y : Reply) → Keeping (rewaited y)
 keep_rewaited y = record { name = λ f. refl; body = λ f. refl }
 
+-- the free of a lock keeps the name and the body of its frame
 pub keep_freed : Keeping freed
 keep_freed = record { name = λ f. refl; body = λ f. refl }
 
+-- going on to the normal routine keeps the name and the body of the frame
 pub keep_normal : Keeping normal_of
 keep_normal = record { name = λ f. refl; body = λ f. refl }
 
+-- a frame that is resumed with a status keeps its name and its body
 pub keep_resumed : (st : Option ℕ) → Keeping (resumed st)
 keep_resumed None = record { name = λ f. refl; body = λ f. refl }
 keep_resumed (Some x) = record { name = λ f. refl; body = λ f. refl }
 
 -- ---- the names fall
 
+-- names still fall after a change of the first frame that keeps its name
 falls_head : (n : ℕ) (g : Frame → Frame) (f : Frame) (fs : List Frame) → (g f).name ≡ f.name → NamesFall n (f ∷ fs) → NamesFall n (g f ∷ fs)
 falls_head n g f fs e h = (subst (λ (m : ℕ). m < n) (sym e) h.0, subst (λ (m : ℕ). NamesFall m fs) (sym e) h.1)
 
+-- names still fall after a keeping change of the frame of one name
 falls_named : (n m : ℕ) (g : Frame → Frame) (fs : List Frame) → Keeping g → NamesFall n fs → NamesFall n (at_name m g fs)
 falls_named n m g [] k h = h
 falls_named n m g (f ∷ fs) k h = go (f.name == m)
@@ -71,9 +78,11 @@ falls_named n m g (f ∷ fs) k h = go (f.name == m)
     go true = falls_head n g f fs (k.name f) h
     go false = h
 
+-- names that fall from a bound still do without the first frame
 falls_tail : (n : ℕ) (f : Frame) (fs : List Frame) → NamesFall n (f ∷ fs) → NamesFall n fs
 falls_tail n f fs h = let l = h.0 in falls_from Frame (λ (f : Frame). f.name) f.name n fs (omega (arith, l)) h.1
 
+-- names still fall after the frame of one name is removed
 falls_without : (n m : ℕ) (fs : List Frame) → NamesFall n fs → NamesFall n (without m fs)
 falls_without n m [] h = h
 falls_without n m (f ∷ fs) h = go (f.name == m)
@@ -82,6 +91,7 @@ falls_without n m (f ∷ fs) h = go (f.name == m)
     go true = falls_tail n f fs h
     go false = h
 
+-- names still fall after the frame of one name ends on a thread
 falls_end : (n m : ℕ) (fs : List Frame) → NamesFall n fs → NamesFall n (end_on_thread m fs)
 falls_end n m [] h = h
 falls_end n m (f ∷ fs) h = go (f.name == m) (is_base_body f.body)
@@ -91,6 +101,7 @@ falls_end n m (f ∷ fs) h = go (f.name == m) (is_base_body f.body)
     go true false = falls_tail n f fs h
     go false c = h
 
+-- names fall from below the next number after an event of the processor on its own part
 own_after_falls : (n : ℕ) (due : Option ℕ) (w : What) (fs : List Frame) → NamesFall n fs → NamesFall (suc n) (own_after n due w fs)
 own_after_falls n due (Begin (Int l) from) fs h = (omega arith, h)
 own_after_falls n due (Begin (Dpc d) from) fs h = (omega arith, h)
@@ -103,6 +114,7 @@ own_after_falls n due (Free f k) fs h =
 own_after_falls n due (End f) fs h = falls_from Frame (λ (f : Frame). f.name) n (suc n) (without f fs) (omega arith) (falls_without n f fs h)
 own_after_falls n due w fs h = falls_from Frame (λ (f : Frame). f.name) n (suc n) fs (omega arith) h
 
+-- the names of the frames on a processor's own part fall, each that of an earlier event
 pub own_falls : (p : CpuNo) (past : List Event) → NamesFall (length past) (own_frames p past)
 own_falls p [] = tt
 own_falls p (e ∷ past) = go (is_of e p) (own_falls p past)
@@ -112,6 +124,7 @@ own_falls p (e ∷ past) = go (is_of e p) (own_falls p past)
     go true h = own_after_falls (length past) (due_of e.what (time past)) e.what (own_frames p past) h
     go false h = falls_from Frame (λ (f : Frame). f.name) (length past) (suc (length past)) (own_frames p past) (omega arith) h
 
+-- names fall from below the next number after an event of the thread on its part
 thread_after_falls : (s : Script) (n : ℕ) (due : Option ℕ) (w : What) (fs : List Frame) → NamesFall n fs → NamesFall (suc n) (thread_after s n due w fs)
 thread_after_falls s n due (Switch t st) [] h = (omega arith, tt)
 thread_after_falls s n due (Switch t st) (f ∷ fs) h =
@@ -135,6 +148,7 @@ thread_after_falls s n due (End f) fs h = falls_from Frame (λ (f : Frame). f.na
 thread_after_falls s n due (Gone t) fs h = tt
 thread_after_falls s n due w fs h = falls_from Frame (λ (f : Frame). f.name) n (suc n) fs (omega arith) h
 
+-- the names of the frames on a thread's part fall, each that of an earlier event
 pub thread_falls : (s : Script) (p : CpuNo) (t : ThreadNo) (past : List Event) → NamesFall (length past) (thread_frames s p t past)
 thread_falls s p t [] = tt
 thread_falls s p t (e ∷ past) = go (is_of e p) (is_by e t) refl refl (thread_falls s p t past)
@@ -154,10 +168,12 @@ thread_falls s p t (e ∷ past) = go (is_of e p) (is_by e t) refl refl (thread_f
 
 -- ---- what holds of each frame, by its name and body
 
+-- if P implies Q and P holds of the name and body of each frame of a list, Q holds of each
 pub each_map : (P Q : ℕ → Body → Type 0) (fs : List Frame) → ((n : ℕ) (b : Body) → P n b → Q n b) → EachNamed P fs → EachNamed Q fs
 each_map P Q [] f h = tt
 each_map P Q (x ∷ fs) f h = (f x.name x.body h.0, each_map P Q fs f h.1)
 
+-- if names fall from below a bound, each frame of which P holds also has a name below the bound
 pub each_below : (P : ℕ → Body → Type 0) (n : ℕ) (fs : List Frame) → NamesFall n fs → EachNamed P fs → EachNamed (λ m b. P m b × (m < n)) fs
 each_below P n [] f h = tt
 each_below P n (x ∷ fs) f h =
@@ -168,6 +184,7 @@ pub keep_at : (P : ℕ → Body → Type 0) (g : Frame → Frame) (f : Frame) �
 keep_at P g f k h =
     subst (λ (n : ℕ). P n (g f).body) (sym (k.name f)) (subst (λ (b : Body). P f.name b) (sym (k.body f)) h)
 
+-- what holds of the name and body of each frame still does after a keeping change of the innermost one
 pub each_at_name : (P : ℕ → Body → Type 0) (m : ℕ) (g : Frame → Frame) (fs : List Frame) → Keeping g → EachNamed P fs → EachNamed P (at_name m g fs)
 each_at_name P m g [] k h = h
 each_at_name P m g (f ∷ fs) k h = (go (f.name == m), h.1)
@@ -176,6 +193,7 @@ each_at_name P m g (f ∷ fs) k h = (go (f.name == m), h.1)
     go true = keep_at P g f k h.0
     go false = h.0
 
+-- what holds of each frame of a list holds of each that is left after one is removed
 each_without : (P : ℕ → Body → Type 0) (m : ℕ) (fs : List Frame) → EachNamed P fs → EachNamed P (without m fs)
 each_without P m [] h = h
 each_without P m (f ∷ fs) h = go (f.name == m)
@@ -184,6 +202,7 @@ each_without P m (f ∷ fs) h = go (f.name == m)
     go true = h.1
     go false = h
 
+-- what holds of the name and body of each frame on a thread still does after the innermost one ended
 pub each_end : (P : ℕ → Body → Type 0) (m : ℕ) (fs : List Frame) → EachNamed P fs → EachNamed P (end_on_thread m fs)
 each_end P m [] h = h
 each_end P m (f ∷ fs) h = go (f.name == m) (is_base_body f.body)
@@ -193,6 +212,7 @@ each_end P m (f ∷ fs) h = go (f.name == m) (is_base_body f.body)
     go true false = h.1
     go false c = h
 
+-- what holds of each frame of an own part, and of one that the event begins there, holds of each after the event
 own_after_each : (P : ℕ → Body → Type 0) (n : ℕ) (due : Option ℕ) (w : What) (fs : List Frame) → ((b : Body) → begun_own w ≡ Some b → P n b) → EachNamed P fs →
     EachNamed P (own_after n due w fs)
 own_after_each P n due (Begin (Int l) from) fs new h = (new (OnInt l) refl, h)
@@ -203,6 +223,7 @@ own_after_each P n due (Free f k) fs new h = each_at_name P f freed fs keep_free
 own_after_each P n due (End f) fs new h = each_without P f fs h
 own_after_each P n due w fs new h = h
 
+-- what holds of each frame on a thread, and of one that the event begins there, holds of each after the event
 pub thread_after_each : (P : ℕ → Body → Type 0) (s : Script) (n : ℕ) (due : Option ℕ) (w : What) (fs : List Frame) →
     ((t : ThreadNo) (st : Option ℕ) → w ≡ Switch t st → fs ≡ [] → P n (OnBase t)) → ((b : Body) → begun_inner s w ≡ Some b → P n b) → EachNamed P fs →
     EachNamed P (thread_after s n due w fs)
@@ -227,6 +248,7 @@ thread_after_each P s n due w fs base inner h = h
 abbrev pub IsOwnBegin : CpuNo → List Event → ℕ → Body → Type 0
 IsOwnBegin p past n b = At (λ e before. (is_of e p ≡ true) × (begun_own e.what ≡ Some b)) n past
 
+-- each frame on a processor's own part was begun there by the event of its name
 pub own_begun : (p : CpuNo) (past : List Event) → EachNamed (IsOwnBegin p past) (own_frames p past)
 own_begun p [] = tt
 own_begun p (e ∷ past) =
@@ -243,6 +265,7 @@ abbrev pub IsThreadBegin : Script → ThreadNo → List Event → ℕ → Body �
 IsThreadBegin s t past n b = ((b ≡ OnBase t) × At (λ e before. switches_to t e.what ≡ true) n past) ⊎
     At (λ e before. (is_by e t ≡ true) × (begun_inner s e.what ≡ Some b)) n past
 
+-- a Switch that is made by a thread is a switch to that same thread
 pub switch_self : (s : Script) (limit : ℕ) (t u : ThreadNo) (st : Option ℕ) (e : Event) (past : List Event) → IsLegal s limit e past → is_by e t ≡ true →
     e.what ≡ Switch u st → u ≡ t
 switch_self s limit t u st e past g b k =
@@ -250,6 +273,7 @@ switch_self s limit t u st e past g b k =
     ∙ (sym (thread_named s limit e past g) ∙ same_thread e.thread t b) in
     cc
 
+-- in a run each frame on a thread's part was begun there by the event of its name
 pub thread_begun : (s : Script) (limit : ℕ) (p : CpuNo) (t : ThreadNo) (past : List Event) → IsRun s limit past →
     EachNamed (IsThreadBegin s t past) (thread_frames s p t past)
 thread_begun s limit p t [] r = tt
@@ -279,6 +303,7 @@ thread_begun s limit p t (e ∷ past) r =
 
 -- ---- one event begins one frame
 
+-- if two properties exclude each other, they don't both hold of the event at one position
 pub at_both : (P Q : Event → List Event → Type 0) (n : ℕ) (past : List Event) → At P n past → At Q n past →
     ((e : Event) (before : List Event) → P e before → Q e before → ⊥) → ⊥
 at_both P Q n [] h k never = h
@@ -289,16 +314,19 @@ at_both P Q n (e ∷ past) (inr h) (inl k) never =
     let l = at_before P n past h in let m = k.0 in absurd (omega (arith, l, m))
 at_both P Q n (e ∷ past) (inr h) (inr k) never = at_both P Q n past h k never
 
+-- an event that begins a frame on a processor's own part begins none on a thread's
 own_not_inner : (s : Script) (w : What) (b c : Body) → begun_own w ≡ Some b → begun_inner s w ≡ Some c → ⊥
 own_not_inner s (Begin (Int l) from) b c h k = cc
 own_not_inner s (Begin (Dpc d) from) b c h k = cc
 own_not_inner s (Begin (Threaded d) from) b c h k = cc
 own_not_inner s w b c h k = cc
 
+-- an event that begins a frame on a processor's own part is no Switch
 own_not_switch : (t : ThreadNo) (w : What) (b : Body) → begun_own w ≡ Some b → switches_to t w ≡ true → ⊥
 own_not_switch t (Switch u st) b h k = cc
 own_not_switch t w b h k = cc
 
+-- an event that begins an inner frame is no Switch to the thread
 pub inner_not_switch : (s : Script) (t : ThreadNo) (w : What) (b : Body) → begun_inner s w ≡ Some b → switches_to t w ≡ true → ⊥
 inner_not_switch s t (Switch u st) b h k = cc
 inner_not_switch s t w b h k = cc
@@ -318,6 +346,7 @@ own_apart s p t past n b c h (inr k) =
 abbrev pub Heads : ℕ → List Frame → Type 0
 Heads n fs = (f : Frame) × (rest : List Frame) × (fs ≡ f ∷ rest) × (f.name ≡ n)
 
+-- if the head of a list of frames has a name, the list begins with a frame of that name
 pub heads_of : (fs : List Frame) (f : Frame) (n : ℕ) → head_of fs ≡ Some f → n ≡ f.name → Heads n fs
 heads_of [] f n h e = cc
 heads_of (g ∷ fs) f n h e = let same : g ≡ f = cc in (g, fs, refl, ap (λ (x : Frame). x.name) same ∙ sym e)
@@ -326,6 +355,7 @@ abbrev pub IsEnder : Script → CpuNo → List Event → ℕ → Type 0
 IsEnder s q past n = Heads n (own_frames q past) ⊎ ((own_frames q past ≡ []) ×
     ((u : ThreadNo) × (running q past ≡ Some u) × Heads n (thread_frames s q u past)))
 
+-- in a run an End names the innermost frame of its processor's own part or, if that is empty, its thread's
 pub ender : (s : Script) (limit : ℕ) (n : ℕ) (e : Event) (past : List Event) → IsRun s limit (e ∷ past) → e.what ≡ End n → IsEnder s e.cpu past n
 ender s limit n e past r k = go (own_frames e.cpu past) refl
   where
@@ -347,12 +377,14 @@ ender s limit n e past r k = go (own_frames e.cpu past) refl
         let part : thread_part (frames_of s e.cpu past) ≡ thread_frames s e.cpu u.0 past = part_of_running s e.cpu u.0 past here.0 u.1 in
         inr (o, (u.0, u.1, heads_of (thread_frames s e.cpu u.0 past) known.frame n (sym (ap head_of part) ∙ head) known.name))
 
+-- if P holds of each frame, it holds of the name that heads the list, with some body
 pub each_head : (P : ℕ → Body → Type 0) (n : ℕ) (fs : List Frame) → EachNamed P fs → Heads n fs → (b : Body) × P n b
 each_head P n fs h k =
     let a = subst (EachNamed P) k.2 h in (k.0.body, subst (λ (m : ℕ). P m k.0.body) k.3 a.0)
 
 -- ---- the frames of an own part are open
 
+-- a frame that is open on an own part is still open after an event that doesn't end it
 own_lift : (p : CpuNo) (e : Event) (past : List Event) (n : ℕ) (b : Body) → ends_frame n e.what ≡ false → IsOpenOwn p past n b → IsOpenOwn p (e ∷ past) n b
 own_lift p e past n b k h = (inr h.0, (λ l. k, h.1))
 
@@ -380,6 +412,7 @@ foreign s limit p e past n b (End g) r o k h = go (g == n) refl
     go true q = absurd (no (eqb-true g n q) (ender s limit g e past r k))
 foreign s limit p e past n b w r o k h = refl
 
+-- after the first frame of an own part ends, each frame that is left there is open
 own_end : (p : CpuNo) (e : Event) (past : List Event) (g : ℕ) (fs : List Frame) → e.what ≡ End g → NamesFall (length past) fs → ((fs ≡ []) ⊎ Heads g fs) →
     EachNamed (IsOpenOwn p past) fs → EachNamed (IsOpenOwn p (e ∷ past)) (without g fs)
 own_end p e past g [] k f d h = tt
@@ -398,6 +431,7 @@ own_end p e past g (x ∷ fs) k f (inr d) h =
     survives : (m : ℕ) → m < g → ends_frame m e.what ≡ false
     survives m l = ap (ends_frame m) k ∙ differs m l (g == m) refl
 
+-- in a run each frame on a processor's own part is open there
 pub own_open : (s : Script) (limit : ℕ) (p : CpuNo) (past : List Event) → IsRun s limit past → EachNamed (IsOpenOwn p past) (own_frames p past)
 own_open s limit p [] r = tt
 own_open s limit p (e ∷ past) r = go (is_of e p) refl (own_open s limit p past r.1)
@@ -429,6 +463,7 @@ own_open s limit p (e ∷ past) r = go (is_of e p) refl (own_open s limit p past
 
 -- ---- each open one is among them
 
+-- a frame that is in a list is still there, by name and body, after a keeping change of the innermost one
 pub has_at_name : (n m : ℕ) (b : Body) (g : Frame → Frame) (fs : List Frame) → Keeping g → HasFrame n b fs → HasFrame n b (at_name m g fs)
 has_at_name n m b g [] k h = h
 has_at_name n m b g (f ∷ fs) k (inr h) = inr h
@@ -438,6 +473,7 @@ has_at_name n m b g (f ∷ fs) k (inl h) = inl (go (f.name == m))
     go true = (k.name f ∙ h.0, k.body f ∙ h.1)
     go false = h
 
+-- a frame of another name is still in a list after the frame of one name is removed
 has_without : (n m : ℕ) (b : Body) (fs : List Frame) → (m == n) ≡ false → HasFrame n b fs → HasFrame n b (without m fs)
 has_without n m b [] d h = h
 has_without n m b (f ∷ fs) d h = go (f.name == m) refl h
@@ -447,6 +483,7 @@ has_without n m b (f ∷ fs) d h = go (f.name == m) refl h
     go true q (inr h) = h
     go true q (inl h) = absurd (both_ways (m == n) d (eq-eqb m n (sym (eqb-true f.name m q) ∙ h.0)))
 
+-- a frame of an own part is still there after an event of the processor that doesn't end it
 own_stays : (n m : ℕ) (b : Body) (due : Option ℕ) (w : What) (fs : List Frame) → ends_frame n w ≡ false → HasFrame n b fs → HasFrame n b (own_after m due w fs)
 own_stays n m b due (Begin (Int l) from) fs d h = inr h
 own_stays n m b due (Begin (Dpc x) from) fs d h = inr h
@@ -456,12 +493,14 @@ own_stays n m b due (Free f k) fs d h = has_at_name n f b freed fs keep_freed h
 own_stays n m b due (End f) fs d h = has_without n f b fs d h
 own_stays n m b due w fs d h = h
 
+-- a frame that an event begins on an own part is there after the event
 own_new : (n : ℕ) (b : Body) (due : Option ℕ) (w : What) (fs : List Frame) → begun_own w ≡ Some b → HasFrame n b (own_after n due w fs)
 own_new n b due (Begin (Int l) from) fs h = let same : OnInt l ≡ b = cc in inl (refl, same)
 own_new n b due (Begin (Dpc d) from) fs h = let same : OnDpc d ≡ b = cc in inl (refl, same)
 own_new n b due (Begin (Threaded d) from) fs h = let same : OnThreaded d ≡ b = cc in inl (refl, same)
 own_new n b due w fs h = cc
 
+-- each frame that is open on an own part is in the list of its frames
 own_has : (p : CpuNo) (n : ℕ) (b : Body) (past : List Event) → IsOpenOwn p past n b → HasFrame n b (own_frames p past)
 own_has p n b [] h = h.0
 own_has p n b (e ∷ past) h = go h.0 h.1 (λ k. own_has p n b past k)
@@ -485,6 +524,7 @@ own_has p n b (e ∷ past) h = go h.0 h.1 (λ k. own_has p n b past k)
     go (inr a) m ih =
         earlier (is_of e p) (m.0 (at_before (λ e before. (is_of e p ≡ true) × (begun_own e.what ≡ Some b)) n past a)) (ih (a, m.1))
 
+-- in a run the frames on a processor's own part are exactly the open ones, the greatest number first
 pub own_lists : (s : Script) (limit : ℕ) (p : CpuNo) (past : List Event) → IsRun s limit past → Lists (IsOpenOwn p past) (length past) (own_frames p past)
 own_lists s limit p past r =
     record { each = own_open s limit p past r; all = λ n b h. own_has p n b past h; falls = own_falls p past }

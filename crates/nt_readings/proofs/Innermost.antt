@@ -34,10 +34,12 @@ use Rattle.nt_readings.proofs.Threads.{part_of, thread_lists}
 abbrev LeavesRunning : CpuNo → Event → List Event → Type 0
 LeavesRunning p e before = is_of e p ≡ true → (is_switch_event e.what ≡ false) × (stops_thread e.what ≡ false)
 
+-- a thread that runs unless it was stopped ran before and wasn't stopped
 runs_yet : (b : Bool) (r : Option ThreadNo) (t : ThreadNo) → (if b then None else r) ≡ Some t → (r ≡ Some t) × (b ≡ false)
 runs_yet true r t h = cc
 runs_yet false r t h = (h, refl)
 
+-- a thread that runs after an event was switched to by it, or ran before and the event is no Switch or stop
 ran_before : (w : What) (r : Option ThreadNo) (t : ThreadNo) → running_after w r ≡ Some t → (switches_to t w ≡ true) ⊎
     ((r ≡ Some t) × (is_switch_event w ≡ false) × (stops_thread w ≡ false))
 ran_before (Switch u st) r t h = let same : u ≡ t = cc in inl (eq-eqb u.0 t.0 (ap (λ (v : ThreadNo). v.0) same))
@@ -46,6 +48,7 @@ ran_before (Call f c y) r t h = let k = runs_yet (stops c y) r t h in inr (k.0, 
 ran_before (Rewait f y) r t h = let k = runs_yet (is_blocked y) r t h in inr (k.0, refl, k.1)
 ran_before w r t h = inr (h, refl, refl)
 
+-- an event that is no Switch and stops no thread leaves the running thread as it was
 runs_on : (w : What) (r : Option ThreadNo) → is_switch_event w ≡ false → stops_thread w ≡ false → running_after w r ≡ r
 runs_on (Switch u st) r h k = cc
 runs_on (Gone u) r h k = cc
@@ -53,13 +56,16 @@ runs_on (Call f c y) r h k = if_none (stops c y) r k
 runs_on (Rewait f y) r h k = if_none (is_blocked y) r k
 runs_on w r h k = refl
 
+-- after a Switch to a thread that thread runs
 switched : (w : What) (r : Option ThreadNo) (t : ThreadNo) → switches_to t w ≡ true → running_after w r ≡ Some t
 switched (Switch u st) r t h = ap (λ (m : ℕ). Some (record { 0 = m })) (eqb-true u.0 t.0 h)
 switched w r t h = cc
 
+-- false isn't true
 no_bool : false ≡ true → ⊥
 no_bool h = cc
 
+-- the thread that runs on a processor is that of its last Switch, which no later event there stops
 running_switched : (p : CpuNo) (t : ThreadNo) (past : List Event) → running p past ≡ Some t → IsLastSwitched p t past
 running_switched p t [] h = cc
 running_switched p t (e ∷ past) h = go (is_of e p) refl h (λ k. running_switched p t past k)
@@ -78,6 +84,7 @@ running_switched p t (e ∷ past) h = go (is_of e p) refl h (λ k. running_switc
     go true o k ih = own o (ran_before e.what (running p past) t k) ih
     go false o k ih = later (λ q. absurd (no_bool (sym o ∙ q))) (ih k)
 
+-- the thread of a processor's last Switch, if no later event there stops it, runs there
 switched_running : (p : CpuNo) (t : ThreadNo) (past : List Event) → IsLastSwitched p t past → running p past ≡ Some t
 switched_running p t [] h = absurd h.1
 switched_running p t (e ∷ past) h = go (is_of e p) refl h.1 (λ k m. switched_running p t past (h.0, k, m))
@@ -94,16 +101,19 @@ switched_running p t (e ∷ past) h = go (is_of e p) refl h.1 (λ k m. switched_
         runs_on e.what (running p past) l.0 l.1 ∙ ih a h.2.1
     go false o (inr a) ih = ih a h.2.1
 
+-- a thread runs on a processor exactly where the last Switch there is to it and no later event there stops it
 pub running_is_last : (p : CpuNo) (t : ThreadNo) (past : List Event) → (running p past ≡ Some t) ↔ IsLastSwitched p t past
 running_is_last p t past = (λ h. running_switched p t past h, λ h. switched_running p t past h)
 
 -- ---- the innermost frame
 
+-- a frame in a list whose names fall from a bound has a name below the bound
 has_below : (m n : ℕ) (b : Body) (fs : List Frame) → NamesFall n fs → HasFrame m b fs → m < n
 has_below m n b [] f h = absurd h
 has_below m n b (x ∷ fs) f (inl h) = let l = f.0 in let k = h.0 in omega (arith, l, k)
 has_below m n b (x ∷ fs) f (inr h) = let l = f.0 in let k = has_below m x.name b fs f.1 h in omega (arith, l, k)
 
+-- the first of the listed frames is the one of greatest number
 first_greatest : (P : ℕ → Body → Type 0) (n : ℕ) (f : Frame) (fs : List Frame) → Lists P n (f ∷ fs) → IsGreatest P f
 first_greatest P n f fs l = (l.each.0, λ m b h. at_most m b (l.all m b h))
   where
@@ -111,9 +121,11 @@ first_greatest P n f fs l = (l.each.0, λ m b h. at_most m b (l.all m b h))
     at_most m b (inl h) = let k = h.0 in omega (arith, k)
     at_most m b (inr h) = let k = has_below m f.name b fs l.falls.1 h in omega (arith, k)
 
+-- if an empty list lists the frames of a property, it holds of none
 none_open : (P : ℕ → Body → Type 0) (n : ℕ) → Lists P n [] → HasNone P
 none_open P n l m b h = l.all m b h
 
+-- in a run the innermost frame is the open one of greatest number of the processor's own part, else its thread's
 pub innermost_greatest : (s : Script) (limit : ℕ) (p : CpuNo) (past : List Event) → IsRun s limit past → IsInnermost s p past (innermost (frames_of s p past))
 innermost_greatest s limit p past r = go (own_frames p past) (own_lists s limit p past r)
   where

@@ -44,15 +44,19 @@ use Rattle.nt_readings.proofs.Served.{none_yet}
 
 -- ---- what an event does to one lock
 
+-- getting a lock and getting another are the same move only if the locks are the same
 gets_one : (j k : LockNo) → Gets j ≡ Gets k → j ≡ k
 gets_one j k q = cc
 
+-- spinning on a lock and spinning on another are the same move only if the locks are the same
 spins_one : (j k : LockNo) → Spins j ≡ Spins k → j ≡ k
 spins_one j k q = cc
 
+-- freeing a lock and freeing another are the same move only if the locks are the same
 frees_one : (j k : LockNo) → Frees j ≡ Frees k → j ≡ k
 frees_one j k q = cc
 
+-- the move of an event that frees a lock is to free that lock
 freeing_move : (n : ℕ) (k : LockNo) (w : What) → IsFreeing n k w → lock_move w ≡ Frees k
 freeing_move n k w (inl q) = ap lock_move q
 freeing_move n k w (inr q) = ap lock_move q
@@ -61,41 +65,51 @@ freeing_move n k w (inr q) = ap lock_move q
 no_freeing : (n : ℕ) (k : LockNo) (w : What) (m : LockMove) → lock_move w ≡ m → (Frees k ≡ m → ⊥) → IsFreeing n k w → ⊥
 no_freeing n k w m e d q = d (sym (freeing_move n k w q) ∙ e)
 
+-- an event whose move isn't to get a lock doesn't get it
 no_get : (n : ℕ) (k : LockNo) (w : What) (m : LockMove) → lock_move w ≡ m → (Gets k ≡ m → ⊥) → IsGet n k w → ⊥
 no_get n k w m e d q = d (sym (ap lock_move q) ∙ e)
 
+-- an event whose move isn't to spin on a lock doesn't spin on it
 no_spin : (n : ℕ) (k : LockNo) (w : What) (m : LockMove) → lock_move w ≡ m → (Spins k ≡ m → ⊥) → IsSpin n k w → ⊥
 no_spin n k w m e d q = d (sym (ap lock_move q) ∙ e)
 
 -- ---- an event that isn't the frame's
 
+-- a call by a frame is a call of that frame
 call_of : (n : ℕ) (c : Command) (y : Reply) (w : What) → w ≡ Call n c y → IsCallOf n w
 call_of n c y w q = subst (IsCallOf n) (sym q) refl
 
+-- an event that leaves a frame aside is no call of the frame
 no_call : (n : ℕ) (w : What) → IsAside n w → IsCallOf n w → ⊥
 no_call n (Call f c y) a h = a f refl h
 no_call n w a h = h
 
+-- a Free is no call of a frame
 free_no_call : (n m : ℕ) (k : LockNo) (w : What) → w ≡ Free m k → IsCallOf n w → ⊥
 free_no_call n m k w q h = subst (IsCallOf n) q h
 
+-- an event that leaves a frame aside gets it no lock
 aside_get : (n : ℕ) (k : LockNo) (w : What) → IsAside n w → IsGet n k w → ⊥
 aside_get n k w a q = a n (ap names q) refl
 
+-- an event that leaves a frame aside frees no lock of it
 aside_freeing : (n : ℕ) (k : LockNo) (w : What) → IsAside n w → IsFreeing n k w → ⊥
 aside_freeing n k w a (inl q) = a n (ap names q) refl
 aside_freeing n k w a (inr q) = a n (ap names q) refl
 
 -- ---- locks that are held, one event later
 
+-- a lock that a frame holds since an event is still held since it after an event that doesn't free it
 holds_on : (n : ℕ) (k : LockNo) (e : Event) (past : List Event) (m : ℕ) → (IsFreeing n k e.what → ⊥) → HoldsSince n k past m → HoldsSince n k (e ∷ past) m
 holds_on n k e past m a h = (h.0, inr h.1, ((λ l. a), h.2))
 
+-- a lock that is held after an event that didn't get it was held before and wasn't freed by it
 holds_back : (n : ℕ) (k : LockNo) (e : Event) (past : List Event) → (IsGet n k e.what → ⊥) → IsHolding n k (e ∷ past) → IsHolding n k past ×
     (IsFreeing n k e.what → ⊥)
 holds_back n k e past a (m, (l, inl q, d)) = absurd (a q.1)
 holds_back n k e past a (m, (l, inr q, d)) = ((m, (l, q, d.1)), d.0 (at_before (λ e before. IsGet n k e.what) m past q))
 
+-- the level that is kept with a lock since an event is still kept with it after a later event
 kept_on : (s : Script) (n : ℕ) (k : LockNo) (v : ℕ) (e : Event) (past : List Event) (m : ℕ) → m < length past → IsKept s n k v past m →
     IsKept s n k v (e ∷ past) m
 kept_on s n k v e past m l h = (h.0, h.1, inr h.2, ((λ a b c. absurd (omega (arith, b, l))), h.3))
@@ -105,10 +119,12 @@ abbrev FreesNone : ℕ → What → List Held → Type 0
 FreesNone n w [] = Unit {0}
 FreesNone n w (h ∷ hs) = (IsFreeing n h.lock w → ⊥) × FreesNone n w hs
 
+-- an event that frees no lock of a frame frees none of its listed locks
 frees_none : (n : ℕ) (w : What) (hs : List Held) → ((k : LockNo) → IsFreeing n k w → ⊥) → FreesNone n w hs
 frees_none n w [] a = tt
 frees_none n w (h ∷ hs) a = (a h.lock, frees_none n w hs a)
 
+-- the locks of a list are still held after an event that frees none of them
 held_on : (s : Script) (n : ℕ) (e : Event) (past : List Event) (m : ℕ) (hs : List Held) → FreesNone n e.what hs → AreHeld s n past m hs →
     AreHeld s n (e ∷ past) m hs
 held_on s n e past m [] a h = tt
@@ -120,10 +136,12 @@ held_on s n e past m (x ∷ hs) a h = (
   held_on s n e past h.0 hs a.1 h.4,
 )
 
+-- locks that were all acquired before an event were acquired before each later one
 held_below : (s : Script) (n : ℕ) (past : List Event) (m i : ℕ) (hs : List Held) → m ≤ i → AreHeld s n past m hs → AreHeld s n past i hs
 held_below s n past m i [] l h = tt
 held_below s n past m i (x ∷ hs) l h = let a = h.1 in (h.0, omega (arith, a, l), h.2, h.3, h.4)
 
+-- after an event that frees none of the held locks, they are held and acquired before the next event
 held_later : (s : Script) (n : ℕ) (e : Event) (past : List Event) (hs : List Held) → FreesNone n e.what hs → AreHeld s n past (length past) hs →
     AreHeld s n (e ∷ past) (suc (length past)) hs
 held_later s n e past hs a h = held_below s n (e ∷ past) (length past) (suc (length past)) hs (omega arith) (held_on s n e past (length past) hs a h)
@@ -141,10 +159,12 @@ held_holding s n past m k (x ∷ hs) h q = go (x.lock.0 == k.0) refl q (λ z. he
 
 -- ---- a lock on which the frame spins, one event later
 
+-- a lock that a frame spins on is still spun on after an event that is no call of it and begins no phase
 spins_on : (n : ℕ) (k : LockNo) (e : Event) (past : List Event) (m : ℕ) → renews n e.what ≡ false → (IsCallOf n e.what → ⊥) → SpinsSince n k past m →
     SpinsSince n k (e ∷ past) m
 spins_on n k e past m a b h = (subst (λ (i : ℕ). i < m) (sym (phase_silent n e past a)) h.0, inr h.1, ((λ l. b), h.2))
 
+-- a lock that is spun on after an event that is no call of the frame and begins no phase was spun on before
 spins_back : (n : ℕ) (k : LockNo) (e : Event) (past : List Event) → renews n e.what ≡ false → (IsCallOf n e.what → ⊥) → IsSpinning n k (e ∷ past) →
     IsSpinning n k past
 spins_back n k e past a b (m, (l, inl q, d)) = absurd (b (call_of n (Acquire k) Spin e.what q.1))
@@ -161,6 +181,7 @@ spins_never n k e past p (m, (l, q, d)) = let a = at_before (λ e before. IsSpin
 
 -- ---- tries
 
+-- if each call up to the end of the history spins on a lock, each call before any later event does
 tries_all : (n : ℕ) (k : LockNo) (j m i : ℕ) (past : List Event) → length past ≤ m → EachSpins n k j m past → EachSpins n k j i past
 tries_all n k j m i [] l h = tt
 tries_all n k j m i (e ∷ past) l h = ((λ a b c. h.0 a (omega (arith, l)) c), tries_all n k j m i past (omega (arith, l)) h.1)
@@ -175,6 +196,7 @@ tries_more n k j m i (e ∷ past) (inr a) d h = (
   tries_more n k j m i past a d.1 h.1,
 )
 
+-- between an event and one that isn't later there is no call, so each spins on the lock
 tries_none : (n : ℕ) (k : LockNo) (j m : ℕ) (past : List Event) → m ≤ j → EachSpins n k j m past
 tries_none n k j m [] l = tt
 tries_none n k j m (e ∷ past) l = ((λ a b c. absurd (omega (arith, a, b, l))), tries_none n k j m past l)
@@ -218,9 +240,11 @@ module _ (s : Script) (e : Event) (past : List Event) (f : Frame) (k : LockNo) (
 
 -- ---- calls
 
+-- a lock that isn't there isn't some held lock
 no_held : {A : Type 0} (h : Held) → ◌≡◌ {A = Option Held} None (Some h) → A
 no_held h q = cc
 
+-- two locks with the same number are the same lock
 same_lock : (j k : LockNo) → (j.0 == k.0) ≡ true → j ≡ k
 same_lock j k q = ap (λ (n : ℕ). record { 0 = n }) (eqb-true j.0 k.0 q)
 
@@ -324,6 +348,7 @@ module _ (s : Script) (e : Event) (past : List Event) (n : ℕ) (k : LockNo) (he
         ih z,
       )
 
+  -- after the lock that a frame got last is freed, its other locks are still held as its events tell
   pub freed_all : AreHeld s n (e ∷ past) (suc (length past)) (tail_of held)
   freed_all = go held first differ h.kept
     where
@@ -336,6 +361,7 @@ module _ (s : Script) (e : Event) (past : List Event) (n : ℕ) (k : LockNo) (he
           held_below s n (e ∷ past) a.0 (suc (length past)) hs (omega (arith, b))
           (held_on s n e past a.0 hs (apart hs (subst (λ (j : LockNo). among j hs ≡ false) same d.0)) a.4)
 
+  -- after the lock that a frame got last is freed, each lock that it holds is among the other ones
   pub freed_holds : (j : LockNo) → IsHolding n j (e ∷ past) → among j (tail_of held) ≡ true
   freed_holds j z =
       let b = holds_back n j e past (not_get_here j) z in go held first ((h.holds j).1 b.0) b.1
@@ -350,6 +376,7 @@ module _ (s : Script) (e : Event) (past : List Event) (n : ℕ) (k : LockNo) (he
           pick true b c =
               let same : k ≡ j = sym (same_lock x.lock k z) ∙ same_lock x.lock j b in absurd (d (subst (λ (i : LockNo). IsFreeing n i e.what) same freeing))
 
+  -- if what is told of the spin is so, all is told of a frame's locks after the one that it got last is freed
   pub freed_with : (o : Option Held) → ((a : Held) → o ≡ Some a → (m : ℕ) × SpinsSince n a.lock (e ∷ past) m × IsKept s n a.lock a.kept (e ∷ past) m) →
       ((j : LockNo) → IsSpinning n j (e ∷ past) → (a : Held) × (o ≡ Some a) × (a.lock ≡ j)) → LocksTold s (e ∷ past) n (tail_of held) o
   freed_with o a b =
@@ -386,9 +413,11 @@ told_quiet s e past n held spin q c h =
     all : AreHeld s n (e ∷ past) (suc (length past)) held
     all = held_later s n e past held (frees_none n e.what held (λ j. no_freeing n j e.what NoMove q (not_free j))) h.kept
 
+-- the command to acquire a lock names one lock only
 command_one : (a b : LockNo) → ◌≡◌ {A = Option Command} (Some (Acquire a)) (Some (Acquire b)) → a ≡ b
 command_one a b q = cc
 
+-- case: the frame calls; its locks are still as its events tell after the call
 told_called : (s : Script) (limit : ℕ) (e : Event) (past : List Event) (n : ℕ) (c : Command) (y : Reply) (due : Option ℕ) → IsRun s limit (e ∷ past) →
     (x : KnownCall s e.cpu (own_of s e.cpu past) (lanes_at s past) n c y) → e.what ≡ Call x.frame.name c y → x.frame.name < length past →
     LocksToldOf s past x.frame → LocksToldOf s (e ∷ past) (called due c y x.frame)
@@ -433,6 +462,7 @@ told_called s limit e past n c y due r x q l h = still refl
 
 -- ---- other events
 
+-- case: a lock of the frame is freed once its routine ended; its other locks are still as its events tell
 told_freed : (s : Script) (limit : ℕ) (e : Event) (past : List Event) (n : ℕ) (k : LockNo) → IsRun s limit (e ∷ past) →
     (x : KnownFree s e.cpu (own_of s e.cpu past) n k) → e.what ≡ Free x.frame.name k → LocksToldOf s past x.frame → LocksToldOf s (e ∷ past) (freed x.frame)
 told_freed s limit e past n k r x q h =
@@ -490,6 +520,7 @@ told_anew s e past n held spin p b d h =
     all : AreHeld s n (e ∷ past) (suc (length past)) held
     all = held_later s n e past held (frees_none n e.what held d) h.kept
 
+-- case: the frame is new; it holds no lock and spins on none
 told_new : (s : Script) (e : Event) (past : List Event) → LocksTold s (e ∷ past) (length past) [] None
 told_new s e past =
     let p = phase_new (length past) (e ∷ past) (omega arith) in
@@ -506,34 +537,42 @@ told_new s e past =
     later : (j : LockNo) → IsHolding (length past) j (e ∷ past) → ⊥
     later j (m, (l, a, d)) = let b = at_before (λ e before. IsGet (length past) j e.what) m (e ∷ past) a in absurd (omega (arith, l, b))
 
+-- an event equal to one that is no call of a frame is no call of it
 quiet_call : (n : ℕ) (w v : What) → w ≡ v → (IsCallOf n v → ⊥) → IsCallOf n w → ⊥
 quiet_call n w v q a h = a (subst (IsCallOf n) q h)
 
+-- an event equal to one that frees no lock of a frame frees none
 quiet_freeing : (n : ℕ) (w v : What) → w ≡ v → ((k : LockNo) → IsFreeing n k v → ⊥) → (k : LockNo) → IsFreeing n k w → ⊥
 quiet_freeing n w v q a k h = a k (subst (IsFreeing n k) q h)
 
+-- a Rewait frees no lock
 no_rewait : (n m : ℕ) (y : Reply) (k : LockNo) → IsFreeing n k (Rewait m y) → ⊥
 no_rewait n m y k (inl q) = cc
 no_rewait n m y k (inr q) = cc
 
+-- a Normal frees no lock
 no_normal : (n m : ℕ) (k : LockNo) → IsFreeing n k (Normal m) → ⊥
 no_normal n m k (inl q) = cc
 no_normal n m k (inr q) = cc
 
+-- an End frees no lock
 no_end : (n m : ℕ) (k : LockNo) → IsFreeing n k (End m) → ⊥
 no_end n m k (inl q) = cc
 no_end n m k (inr q) = cc
 
+-- a Switch frees no lock
 no_switch : (n : ℕ) (t : ThreadNo) (st : Option ℕ) (k : LockNo) → IsFreeing n k (Switch t st) → ⊥
 no_switch n t st k (inl q) = cc
 no_switch n t st k (inr q) = cc
 
+-- case: the frame is resumed; its locks are still as its events tell
 told_resumed : (s : Script) (past : List Event) (st : Option ℕ) (f : Frame) → LocksToldOf s past f → LocksToldOf s past (resumed st f)
 told_resumed s past None f h = h
 told_resumed s past (Some x) f h = h
 
 -- ---- each open frame
 
+-- each event of a run keeps the locks of its frame as the events tell
 locks_follow : (s : Script) (limit : ℕ) → Follows s limit (LocksToldOf s)
 locks_follow s limit =
     record {
@@ -555,6 +594,7 @@ locks_follow s limit =
           (quiet_call f.name e.what (Switch t st) q (λ z. z)) (quiet_freeing f.name e.what (Switch t st) q (λ k. no_switch f.name t st k)) h);
     }
 
+-- in a run each open frame holds the locks, and spins on the lock, that its events tell
 pub locks_told : (s : Script) (limit : ℕ) (past : List Event) → IsRun s limit past → EachLocksTold s past
 locks_told s limit past r =
     record {

@@ -19,12 +19,14 @@ became s thing n past w (FlushedBy m) = fate_is_first_use thing n past (FlushedB
 became s thing n past w (RemovedBy m) = fate_is_first_use thing n past (RemovedBy m)
 became s thing n past w StillWaits = w
 
+-- in a run of a script that fits, an insert still waits exactly where it is pending
 waits_as_pending : (s : Script) (limit : ℕ) (thing : Thing) (n : ℕ) (past : List Event) → IsRun s limit past → fits s ≡ true → IsInsert thing n past →
     (fate_of thing n past ≡ StillWaits) ↔ IsPending s thing n past
 waits_as_pending s limit thing n past r h i =
     let both = (holds_of_each s limit past r h).waiting thing n in
     (λ w. both.0 (i, w), λ p. (both.1 p).1)
 
+-- in a run of a script that fits, each insert was begun, flushed, removed or is pending, and only one of these
 pub each_insert_has_one_fate : (s : Script) (limit : ℕ) (thing : Thing) (n : ℕ) (past : List Event) → IsRun s limit past → fits s ≡ true →
     IsInsert thing n past → HasOneFate s thing n past
 each_insert_has_one_fate s limit thing n past r h i =
@@ -35,6 +37,7 @@ each_insert_has_one_fate s limit thing n past r h i =
       only = λ x b. sym ((became s thing n past w x).1 b);
     }
 
+-- in a run of a script that fits, the waiting inserts are exactly the pending ones
 pub waiting_are_the_pending : (s : Script) (limit : ℕ) (x : Inserted) (past : List Event) → IsRun s limit past → fits s ≡ true →
     Contains (waiting_inserts past) x ↔ IsPending s x.thing x.number past
 waiting_are_the_pending s limit x past r h = (forth, back)

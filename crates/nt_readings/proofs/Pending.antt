@@ -34,6 +34,7 @@ use Rattle.nt_laws.proofs.Fates.Waiting.{unused_dpc}
 
 -- ---- what stands was inserted and not used up
 
+-- no event of a history uses up an insert whose number isn't below the history's length
 pub none_yet : (thing : Thing) (n : ℕ) (past : List Event) → length past ≤ n → NoneUsesUp thing n past
 none_yet thing n [] h = tt
 none_yet thing n (e ∷ past) h =
@@ -42,6 +43,7 @@ none_yet thing n (e ∷ past) h =
 abbrev pub Reads : DpcNo → CpuNo → ℕ → List Event → Type 0
 Reads d p n past = IsInsertedAt p d n past × NoneUsesUp (DpcThing d) n past
 
+-- if the DPC that an event inserts passes the test for a DPC, the event inserts that DPC
 inserts_it : (d : DpcNo) (w : What) → is_dpc (inserted_dpc w) d ≡ true → inserted_dpc w ≡ Some d
 inserts_it d w h = go (inserted_dpc w) h
   where
@@ -49,6 +51,7 @@ inserts_it d w h = go (inserted_dpc w) h
     go None k = cc
     go (Some x) k = ap (λ (n : ℕ). Some (record { 0 = n })) (eqb-true x.0 d.0 k)
 
+-- a DPC that stands in a queue was inserted by the event of its number and not used up since
 standing_reads : (d : DpcNo) (past : List Event) (x : Standing) → standing d past ≡ Some x → Reads d x.queue x.number past
 standing_reads d [] x h = cc
 standing_reads d (e ∷ past) x h =
@@ -71,6 +74,7 @@ standing_reads d (e ∷ past) x h =
 
 -- ---- what was inserted and not used up stands
 
+-- an event that inserted a DPC into a queue has a number below the length of the history
 inserted_before : (p : CpuNo) (d : DpcNo) (n : ℕ) (past : List Event) → IsInsertedAt p d n past → n < length past
 inserted_before p d n [] h = absurd h
 inserted_before p d n (e ∷ past) (inl h) = let k = h.0 in omega (arith, k)
@@ -79,6 +83,7 @@ inserted_before p d n (e ∷ past) (inr h) = let k = inserted_before p d n past 
 abbrev pub Stands : DpcNo → CpuNo → ℕ → List Event → Type 0
 Stands d p n past = (x : Standing) × (standing d past ≡ Some x) × (x.queue.0 ≡ p.0) × (x.number ≡ n)
 
+-- no standing of a DPC isn't some standing
 none_some : {A : Type 0} (o : Option Standing) (x : Standing) → o ≡ None → o ≡ Some x → A
 none_some o x h k = cc
 
@@ -127,6 +132,7 @@ not_used s limit d e past x r has st h = go e.what refl h
     go (Call f (Unqueue y) Yes) k u = u
     go w k u = refl
 
+-- in a run an insert of a DPC that was made and not used up since stands in its queue
 inserted_stands : (s : Script) (limit : ℕ) (d : DpcNo) (past : List Event) → IsRun s limit past → has_dpc s d ≡ true → (p : CpuNo) (n : ℕ) →
     IsInsertedAt p d n past → NoneUsesUp (DpcThing d) n past → Stands d p n past
 inserted_stands s limit d [] r has p n h u = absurd h
@@ -141,6 +147,7 @@ inserted_stands s limit d (e ∷ past) r has p n (inr h) u =
     let v = not_used s limit d e past ih.0 r has ih.1 unused in
     (ih.0, rw (i, v) ih.1, ih.2, ih.3)
 
+-- in a run a DPC that stands in a queue is pending there
 stands_pending : (s : Script) (limit : ℕ) (d : DpcNo) (past : List Event) → IsRun s limit past → has_dpc s d ≡ true → (p : CpuNo) (n : ℕ) → Stands d p n past →
     DpcIsPending s p d n past
 stands_pending s limit d past r has p n h =
@@ -149,6 +156,7 @@ stands_pending s limit d past r has p n h =
     let k = number_contains d (pending s p past) h.0.number (subst (λ (ns : List ℕ). Contains ns h.0.number) (sym all) (contains_here h.0.number [])) in
     (k.0, k.1, ap (λ (n : ℕ). record { 0 = n }) k.2, k.3 ∙ h.3)
 
+-- in a run an insert of a DPC is pending in a queue exactly where it was put there and not used up later
 pub pending_reads : (s : Script) (limit : ℕ) (d : DpcNo) (past : List Event) → IsRun s limit past → has_dpc s d ≡ true → (p : CpuNo) (n : ℕ) →
     DpcIsPending s p d n past ↔ Reads d p n past
 pending_reads s limit d past r has p n = (forth, λ h. stands_pending s limit d past r has p n (inserted_stands s limit d past r has p n h.0 h.1))

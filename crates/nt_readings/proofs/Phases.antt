@@ -64,9 +64,11 @@ level_names n w (inr (inl (k, inr q))) = ap names q
 level_names n w (inr (inr (k, inl q))) = ap names q
 level_names n w (inr (inr (k, inr q))) = ap names q
 
+-- an event that leaves a frame aside doesn't change its level
 level_aside : (n : ℕ) (w : What) → IsAside n w → IsLevelEvent n w → ⊥
 level_aside n w a h = a n (level_names n w h) refl
 
+-- a frame's level is still told by its events after an event that changes no level and begins no phase
 leveled_on : (s : Script) (n level base : ℕ) (e : Event) (past : List Event) → renews n e.what ≡ false → (IsLevelEvent n e.what → ⊥) →
     Leveled s past n level base → Leveled s (e ∷ past) n level base
 leveled_on s n level base e past a b (inl h) =
@@ -76,6 +78,7 @@ leveled_on s n level base e past a b (inr h) =
     let p = phase_silent n e past a in
     inr (h.0, subst (λ (m : ℕ). m < h.0) (sym p) h.1, inr h.2, ((λ l. b), h.3))
 
+-- at the start of a phase a frame's level is its base level
 leveled_anew : (s : Script) (n level base : ℕ) (e : Event) (past : List Event) → level ≡ base → phase_of n (e ∷ past) ≡ length past →
     Leveled s (e ∷ past) n level base
 leveled_anew s n level base e past h p =
@@ -85,6 +88,7 @@ leveled_anew s n level base e past h p =
           (none_yet (λ e before. IsLevelEvent n e.what → ⊥) (length past) e past (omega arith)),
     )
 
+-- an event that sets the frame's level is the last that changed it, so the level is that one
 leveled_set : (s : Script) (n level base : ℕ) (e : Event) (past : List Event) → n < length past → renews n e.what ≡ false → LeavesLevel s n level e past →
     Leveled s (e ∷ past) n level base
 leveled_set s n level base e past l a b =
@@ -104,6 +108,7 @@ level_moves n w m c (inr (inr (k, inr q))) = let z : Frees k ≡ NoMove = sym (a
 abbrev CallLevel : Script → Command → Reply → Frame → ℕ → Event → List Event → Type 0
 CallLevel s c y f level e past = LeavesLevel s f.name level e past ⊎ ((IsLevelEvent f.name e.what → ⊥) × (level ≡ f.level))
 
+-- the level that a call leaves its frame is the one that the call sets, or what it was
 call_level : (s : Script) (p : CpuNo) (x : Own) (l : Lanes) (m : ℕ) (due : Option ℕ) (c : Command) (y : Reply) (k : KnownCall s p x l m c y) (e : Event)
     (past : List Event) → e.what ≡ Call k.frame.name c y → LocksToldOf s past k.frame →
     CallLevel s c y k.frame (called due c y k.frame).level e past
@@ -143,6 +148,7 @@ call_level s p x l m due c y k e past q h =
     other v (inl i) j = cc
     other v (inr i) j = cc
 
+-- a call keeps whether its frame is in its kernel routine
 called_phase : (due : Option ℕ) (c : Command) (y : Reply) (f : Frame) → (called due c y f).kernel_phase ≡ f.kernel_phase
 called_phase due (StartWait m a) y f = refl
 called_phase due (Delay m a u) y f = refl
@@ -150,10 +156,12 @@ called_phase due (Raise l) Done f = refl
 called_phase due c Done f = refl
 called_phase due c y f = refl
 
+-- a call keeps the base level of its frame
 called_base : (due : Option ℕ) (c : Command) (y : Reply) (f : Frame) → base_of (called due c y f) ≡ base_of f
 called_base due c y f =
     ap (λ (b : Body). base_level b (called due c y f).kernel_phase) ((keep_called due c y).body f) ∙ ap (base_level f.body) (called_phase due c y f)
 
+-- after a call the level of its frame is as its events tell
 call_leveled : (s : Script) (c : Command) (y : Reply) (f : Frame) (level : ℕ) (e : Event) (past : List Event) → f.name < length past →
     e.what ≡ Call f.name c y → CallLevel s c y f level e past → IsLeveled s past f → Leveled s (e ∷ past) f.name level (base_of f)
 call_leveled s c y f level e past l k a h = go a
@@ -174,6 +182,7 @@ normal_base f h = go f.body h
     go (OnApc a kind) h = refl
     go b h = cc
 
+-- the base level of a base frame that ended is 0
 left_base : (f : Frame) → is_base_body f.body ≡ true → 0 ≡ base_of (ended_base f)
 left_base f h = go f.body h
   where
@@ -183,10 +192,12 @@ left_base f h = go f.body h
 
 -- ---- places
 
+-- an event that leaves a frame aside is no call of it to count
 call_aside : (n : ℕ) (w : What) → IsAside n w → is_call_of n w ≡ false
 call_aside n (Call f c y) h = ap (λ (b : Bool). b && not (is_spin y)) (not_equal f n (h f refl))
 call_aside n w h = refl
 
+-- a frame's place is still the count of its calls after an event that is no call of it and begins no phase
 placed_on : (n place : ℕ) (e : Event) (past : List Event) → renews n e.what ≡ false → is_call_of n e.what ≡ false → place
     ≡ count_after (is_call_of n) (phase_of n past) past → place ≡ count_after (is_call_of n) (phase_of n (e ∷ past)) (e ∷ past)
 placed_on n place e past a b h =
@@ -194,6 +205,7 @@ placed_on n place e past a b h =
     let q = count_silent (is_call_of n) (phase_of n past) e past b in
     h ∙ sym (p ∙ q)
 
+-- after a call the frame's place is the count of its calls in the phase
 placed_called : (n place : ℕ) (c : Command) (y : Reply) (e : Event) (past : List Event) → n < length past → e.what ≡ Call n c y → place
     ≡ count_after (is_call_of n) (phase_of n past) past → place_after y place ≡ count_after (is_call_of n) (phase_of n (e ∷ past)) (e ∷ past)
 placed_called n place c y e past l k h = go (is_spin y) refl
@@ -210,6 +222,7 @@ placed_called n place c y e past l k h = go (is_spin y) refl
         ≡ suc (count_after (is_call_of n) (phase_of n past) past) = rw (lt-ltb (phase_of n past) (length past) (phase_below n past l), now) refl in
         omega (arith, p, z, h)
 
+-- at the start of a phase a frame's place is 0, as it has no calls yet
 placed_anew : (n m : ℕ) (past : List Event) → phase_of n past ≡ m → length past ≤ suc m → 0 ≡ count_after (is_call_of n) (phase_of n past) past
 placed_anew n m past p l = sym (ap (λ (m : ℕ). count_after (is_call_of n) m past) p ∙ count_none (is_call_of n) m past l)
 
@@ -218,10 +231,12 @@ placed_anew n m past p l = sym (ap (λ (m : ℕ). count_after (is_call_of n) m p
 abbrev NoNormal : ℕ → List Event → Type 0
 NoNormal n past = EachAfter (λ e before. is_normal_of n e.what ≡ false) n past
 
+-- an event that leaves a frame aside isn't its Normal
 normal_aside : (n : ℕ) (w : What) → IsAside n w → is_normal_of n w ≡ false
 normal_aside n (Normal f) h = not_equal f n (h f refl)
 normal_aside n w h = refl
 
+-- a frame's phase is still told by its events after an event that isn't its Normal
 phased_on : (e : Event) (past : List Event) (f : Frame) → is_normal_of f.name e.what ≡ false → IsPhased past f → IsPhased (e ∷ past) f
 phased_on e past f a h = (λ q. let z = h.0 q in (z.0, ((λ l. a), z.1)), λ b n. h.1 b n.1)
 
@@ -231,6 +246,7 @@ abbrev Waited : List Event → ℕ → Option Again → Type 0
 Waited past n o = (w : Again) → o ≡ Some w → (k : ℕ) × (phase_of n past < k) × At (λ e before. wait_called n (time before) e.what ≡ Some w) k past ×
     EachAfter (λ e before. wait_called n (time before) e.what ≡ None) k past
 
+-- an event that leaves a frame aside calls no wait of it
 wait_aside : (n now : ℕ) (w : What) → IsAside n w → wait_called n now w ≡ None
 wait_aside n now (Call f (StartWait m a) y) h =
     ap (λ (b : Bool). if b then (if is_wait_reply y then Some (record { mode = m; alertable = a; due = None }) else None) else None) (not_equal f n (h f refl))
@@ -239,6 +255,7 @@ wait_aside n now (Call f (Delay m a u) y) h =
     (not_equal f n (h f refl))
 wait_aside n now w h = refl
 
+-- a frame's wait is still its last called one after an event that calls no wait and begins no phase
 waited_on : (n : ℕ) (o : Option Again) (e : Event) (past : List Event) → renews n e.what ≡ false → wait_called n (time past) e.what ≡ None → Waited past n o →
     Waited (e ∷ past) n o
 waited_on n o e past a b h w q =
@@ -246,9 +263,11 @@ waited_on n o e past a b h w q =
     let p = phase_silent n e past a in
     (z.0, subst (λ (m : ℕ). m < z.0) (sym p) z.1, inr z.2, ((λ l. b), z.3))
 
+-- no wait to take up is told by any events
 waited_none : (n : ℕ) (past : List Event) → Waited past n None
 waited_none n past w q = cc
 
+-- a wait that the frame calls is its last called one after the event
 waited_new : (n : ℕ) (o : Option Again) (e : Event) (past : List Event) → n < length past → renews n e.what ≡ false → wait_called n (time past) e.what ≡ o →
     Waited (e ∷ past) n o
 waited_new n o e past l a b w q =
@@ -260,6 +279,7 @@ waited_new n o e past l a b w q =
 abbrev LeavesWait : ℕ → Command → Reply → ℕ → Option Again → Option Again → Type 0
 LeavesWait n c y now old new = (wait_called n now (Call n c y) ≡ new) ⊎ ((new ≡ None) ⊎ ((wait_called n now (Call n c y) ≡ None) × (new ≡ old)))
 
+-- a wait that ends with a status is left to take up or is none
 ended_wait : (st : ℕ) (w : Option Again) (old : Option Again) → (again_after (Status st) w old ≡ w) ⊎ (again_after (Status st) w old ≡ None)
 ended_wait st w old = go (st == kernel_apc)
   where
@@ -267,6 +287,7 @@ ended_wait st w old = go (st == kernel_apc)
     go true = inl refl
     go false = inr refl
 
+-- a call leaves its frame the wait that it names, none, or the one that was there
 call_wait : (n now : ℕ) (c : Command) (y : Reply) (f : Frame) → LeavesWait n c y now f.again (called (due_of (Call n c y) now) c y f).again
 call_wait n now (StartWait m a) Blocked f =
     inl (ap (λ (b : Bool). if b then Some (record { mode = m; alertable = a; due = None }) else None) (eq-eqb n n refl))
@@ -297,6 +318,7 @@ call_wait n now (Raise l) Done f = inr (inr (refl, refl))
 call_wait n now c Done f = inr (inr (refl, refl))
 call_wait n now c y f = inr (inr (refl, refl))
 
+-- after a call the wait of its frame is its last called one
 call_waited : (c : Command) (y : Reply) (f : Frame) (e : Event) (past : List Event) → f.name < length past → e.what ≡ Call f.name c y → IsWaited past f →
     Waited (e ∷ past) f.name (called (due_of e.what (time past)) c y f).again
 call_waited c y f e past l k h =
@@ -318,6 +340,7 @@ again_same (Status st) o = ended_wait st o o
 again_same Blocked o = inl refl
 again_same y o = inl refl
 
+-- a wait that is taken up again and answered is the last called one or none
 waited_same : (y : Reply) (n : ℕ) (past : List Event) (o : Option Again) → Waited past n o → Waited past n (again_after y o o)
 waited_same y n past o h = go (again_same y o)
   where
@@ -327,9 +350,11 @@ waited_same y n past o h = go (again_same y o)
 
 -- ---- events that change no level
 
+-- an event equal to one that changes no level of a frame changes none
 level_quiet : (n : ℕ) (w v : What) → w ≡ v → (IsLevelEvent n v → ⊥) → IsLevelEvent n w → ⊥
 level_quiet n w v q a h = a (subst (IsLevelEvent n) q h)
 
+-- a Rewait changes no level of its frame
 no_rewait : (n : ℕ) (y : Reply) → IsLevelEvent n (Rewait n y) → ⊥
 no_rewait n y (inl (v, inl q)) = cc
 no_rewait n y (inl (v, inr q)) = cc
@@ -338,6 +363,7 @@ no_rewait n y (inr (inl (k, inr q))) = cc
 no_rewait n y (inr (inr (k, inl q))) = cc
 no_rewait n y (inr (inr (k, inr q))) = cc
 
+-- a Switch changes no level of a frame
 no_switch : (n : ℕ) (t : ThreadNo) (st : Option ℕ) → IsLevelEvent n (Switch t st) → ⊥
 no_switch n t st (inl (v, inl q)) = cc
 no_switch n t st (inl (v, inr q)) = cc
@@ -348,6 +374,7 @@ no_switch n t st (inr (inr (k, inr q))) = cc
 
 -- ---- each open frame
 
+-- case: the event changes nothing of the frame; its level, place, phase and wait are still as told
 told_on : (s : Script) (e : Event) (past : List Event) (f : Frame) → renews f.name e.what ≡ false → (IsLevelEvent f.name e.what → ⊥) →
     is_call_of f.name e.what ≡ false → is_normal_of f.name e.what ≡ false → wait_called f.name (time past) e.what ≡ None → IsTold s past f →
     IsTold s (e ∷ past) f
@@ -359,6 +386,7 @@ told_on s e past f a b c d i h =
       wait = waited_on f.name f.again e past a i h.wait;
     }
 
+-- case: the frame is new; its level, place, phase and wait are as its events tell
 told_new : (s : Script) (e : Event) (past : List Event) (b : Body) → IsTold s (e ∷ past) (new_frame (length past) b)
 told_new s e past b =
     let p = phase_new (length past) (e ∷ past) (omega arith) in
@@ -369,6 +397,7 @@ told_new s e past b =
       wait = waited_none (length past) (e ∷ past);
     }
 
+-- case: the frame calls; its level, place, phase and wait are as its events tell
 told_called : (s : Script) (c : Command) (y : Reply) (f : Frame) (e : Event) (past : List Event) → f.name < length past → e.what ≡ Call f.name c y →
     CallLevel s c y f (called (due_of e.what (time past)) c y f).level e past → IsTold s past f →
     IsTold s (e ∷ past) (called (due_of e.what (time past)) c y f)
@@ -395,6 +424,7 @@ told_called s c y f e past l k a h =
           ∙ on.1 (ap is_apc_body (sym body) ∙ q) (subst (λ (n : ℕ). NoNormal n (e ∷ past)) name m),
     )
 
+-- case: the frame goes on to its normal routine; what it tells begins anew
 told_normal : (s : Script) (f : Frame) (e : Event) (past : List Event) → f.name < length past → e.what ≡ Normal f.name → has_normal f.body ≡ true →
     IsTold s (e ∷ past) (normal_of f)
 told_normal s f e past l k n =
@@ -409,6 +439,7 @@ told_normal s f e past l k n =
     no_bool : {A : Type 0} → false ≡ true → A
     no_bool q = cc
 
+-- case: a base frame ends and stays; what it tells begins anew
 told_left : (s : Script) (f : Frame) (e : Event) (past : List Event) → f.name < length past → e.what ≡ End f.name → is_base_body f.body ≡ true →
     IsTold s past f → IsTold s (e ∷ past) (ended_base f)
 told_left s f e past l k b h =
@@ -421,6 +452,7 @@ told_left s f e past l k b h =
       wait = waited_none f.name (e ∷ past);
     }
 
+-- case: the frame takes up its wait again; what it tells stays
 told_rewaited : (s : Script) (y : Reply) (f : Frame) (e : Event) (past : List Event) → e.what ≡ Rewait f.name y → IsTold s past f →
     IsTold s (e ∷ past) (rewaited y f)
 told_rewaited s y f e past k h =
@@ -428,6 +460,7 @@ told_rewaited s y f e past k h =
     (ap (is_normal_of f.name) k) (ap (wait_called f.name (time past)) k) h in
     record { level = on.level; place = on.place; phase = (on.phase.0, on.phase.1); wait = waited_same y f.name (e ∷ past) f.again on.wait }
 
+-- case: the frame is resumed by a Switch; what it tells stays
 told_resumed : (s : Script) (st : Option ℕ) (t : ThreadNo) (f : Frame) (e : Event) (past : List Event) → e.what ≡ Switch t st → IsTold s past f →
     IsTold s (e ∷ past) (resumed st f)
 told_resumed s st t f e past k h = go st (told_on s e past f (ap (renews f.name) k) (level_quiet f.name e.what (Switch t st) k (no_switch f.name t st))
@@ -460,6 +493,7 @@ told_freed s limit e past n k r x q l h =
     kept =
         last_kept s past x.frame.name x.frame.held x.frame.spin k x.frame.level (inner_told s limit e.cpu past x.frame r.1 x.goes_on.inner) first
 
+-- each event of a run keeps the level, place, phase and wait of its frame as the events tell
 frames_follow : (s : Script) (limit : ℕ) → Follows s limit (IsTold s)
 frames_follow s limit =
     record {
@@ -476,6 +510,7 @@ frames_follow s limit =
       resumed = λ e past t st f q l h. told_resumed s st t f e past q h;
     }
 
+-- in a run each open frame has the level, place, phase and wait that the events of its present phase tell
 pub frames_told : (s : Script) (limit : ℕ) (past : List Event) → IsRun s limit past → FramesTold s past
 frames_told s limit past r =
     record {
@@ -485,6 +520,7 @@ frames_told s limit past r =
 
 -- ---- waits that are taken up
 
+-- in a run a Rewait takes up the last wait that its frame called in its present phase
 pub taken_up : (s : Script) (limit : ℕ) (e : Event) (past : List Event) (n : ℕ) (y : Reply) → IsRun s limit (e ∷ past) → e.what ≡ Rewait n y → (w : Again) ×
     ((stand_at s e.cpu past).again ≡ Some w) × IsLastWait n w past
 taken_up s limit e past n y r k = (

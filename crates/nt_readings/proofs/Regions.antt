@@ -40,18 +40,21 @@ use Rattle.nt_readings.proofs.Threads.{part_of, thread_lists}
 
 -- ---- phases and counts
 
+-- as long as no event came after a frame's begin, its phase is the one that began with it
 pub phase_new : (n : ℕ) (past : List Event) → length past ≤ suc n → phase_of n past ≡ n
 phase_new n [] h = refl
 phase_new n (e ∷ past) h =
     let l : nat_lt n (length past) ≡ false = le-ltb n (length past) (omega (arith, h)) in
     rw l (phase_new n past (omega (arith, h)))
 
+-- no event is counted after the last one
 pub count_none : (test : What → Bool) (m : ℕ) (past : List Event) → length past ≤ suc m → count_after test m past ≡ 0
 count_none test m [] h = refl
 count_none test m (e ∷ past) h =
     let l : nat_lt m (length past) ≡ false = le-ltb m (length past) (omega (arith, h)) in
     rw l (count_none test m past (omega (arith, h)))
 
+-- the present phase of a frame that was begun in the history began in the history
 pub phase_below : (n : ℕ) (past : List Event) → n < length past → phase_of n past < length past
 phase_below n [] h = h
 phase_below n (e ∷ past) h = go (nat_lt n (length past)) refl (renews n e.what) (λ k. phase_below n past k)
@@ -70,9 +73,11 @@ phase_below n (e ∷ past) h = go (nat_lt n (length past)) refl (renews n e.what
 pub phase_anew : (n : ℕ) (e : Event) (past : List Event) → n < length past → renews n e.what ≡ true → phase_of n (e ∷ past) ≡ length past
 phase_anew n e past l h = rw (lt-ltb n (length past) l, h) refl
 
+-- the Normal of a frame begins the frame's phase anew
 pub normal_anew : (n : ℕ) (w : What) → w ≡ Normal n → renews n w ≡ true
 normal_anew n w k = ap (renews n) k ∙ eq-eqb n n refl
 
+-- the End of a frame that stays begins the frame's phase anew
 pub end_anew : (n : ℕ) (w : What) → w ≡ End n → renews n w ≡ true
 end_anew n w k = ap (renews n) k ∙ eq-eqb n n refl
 
@@ -81,30 +86,37 @@ end_anew n w k = ap (renews n) k ∙ eq-eqb n n refl
 abbrev pub IsSilent : ℕ → What → Type 0
 IsSilent n w = (renews n w ≡ false) × ((test : Command → Bool) → has_done test n w ≡ false)
 
+-- an "and" is false, whatever its first side, if the second is
 and_false : (a b : Bool) → b ≡ false → (a && b) ≡ false
 and_false true b h = h
 and_false false b h = refl
 
+-- an event that doesn't begin a frame's phase anew leaves the phase as it was
 pub phase_silent : (n : ℕ) (e : Event) (past : List Event) → renews n e.what ≡ false → phase_of n (e ∷ past) ≡ phase_of n past
 phase_silent n e past h = rw (and_false (nat_lt n (length past)) (renews n e.what) h) refl
 
+-- an event that fails the test leaves the count of those that pass as it was
 pub count_silent : (test : What → Bool) (m : ℕ) (e : Event) (past : List Event) → test e.what ≡ false → count_after test m (e ∷ past) ≡ count_after test m past
 count_silent test m e past h = rw (and_false (nat_lt m (length past)) (test e.what) h) refl
 
+-- an event that does nothing to a frame keeps the count of its done calls of a kind in the phase
 done_silent : (test : Command → Bool) (n : ℕ) (e : Event) (past : List Event) → IsSilent n e.what →
     count_after (has_done test n) (phase_of n (e ∷ past)) (e ∷ past) ≡ count_after (has_done test n) (phase_of n past) past
 done_silent test n e past h =
     ap (λ (m : ℕ). count_after (has_done test n) m (e ∷ past)) (phase_silent n e past h.0) ∙ count_silent (has_done test n) (phase_of n past) e past (h.1 test)
 
+-- an event that does nothing to a frame keeps that a count is its enters less its leaves
 net_silent : (r : Region) (k n : ℕ) (e : Event) (past : List Event) → IsSilent n e.what → IsNet r k n past → IsNet r k n (e ∷ past)
 net_silent r k n e past h c =
     let a = done_silent (is_leave r) n e past h in
     let b = done_silent (is_enter r) n e past h in
     omega (arith, a, b, c)
 
+-- an event that does nothing to a frame keeps both of its region counts as told
 counted_silent : (f : Frame) (e : Event) (past : List Event) → IsSilent f.name e.what → IsCounted past f → IsCounted (e ∷ past) f
 counted_silent f e past h c = (net_silent Crit f.crit f.name e past h c.0, net_silent Guard f.guard f.name e past h c.1)
 
+-- an event that doesn't name a frame neither begins its phase anew nor is a call of it
 pub silent : (n : ℕ) (w : What) → IsAside n w → IsSilent n w
 silent n (Call f c y) h = (refl, λ test. ap (λ (b : Bool). b && (test c && is_done y)) (not_equal f n (h f refl)))
 silent n (Normal f) h = (not_equal f n (h f refl), λ test. refl)
@@ -113,17 +125,20 @@ silent n w h = (refl, λ test. refl)
 
 -- ---- a new frame, and a phase that begins anew
 
+-- at the start of a phase a frame has entered and left no region
 net_none : (r : Region) (n : ℕ) (past : List Event) (m : ℕ) → phase_of n past ≡ m → length past ≤ suc m → IsNet r 0 n past
 net_none r n past m e l =
     let a : exited r n past ≡ 0 = ap (λ (m : ℕ). count_after (has_done (is_leave r) n) m past) e ∙ count_none (has_done (is_leave r) n) m past l in
     let b : entered r n past ≡ 0 = ap (λ (m : ℕ). count_after (has_done (is_enter r) n) m past) e ∙ count_none (has_done (is_enter r) n) m past l in
     omega (arith, a, b)
 
+-- the region counts of a new frame are as its events tell
 new_counted : (b : Body) (e : Event) (past : List Event) → IsCounted (e ∷ past) (new_frame (length past) b)
 new_counted b e past =
     let p = phase_new (length past) (e ∷ past) (omega arith) in
     (net_none Crit (length past) (e ∷ past) (length past) p (omega arith), net_none Guard (length past) (e ∷ past) (length past) p (omega arith))
 
+-- just after its phase was begun anew, a frame is in no regions
 pub net_renewed : (r : Region) (n : ℕ) (e : Event) (past : List Event) → n < length past → renews n e.what ≡ true → IsNet r 0 n (e ∷ past)
 net_renewed r n e past l h =
     let p : phase_of n (e ∷ past) ≡ length past = rw (lt-ltb n (length past) l, h) refl in
@@ -131,6 +146,7 @@ net_renewed r n e past l h =
 
 -- ---- a call
 
+-- a call adds one to the critical count if it enters, takes one off if it leaves, and keeps it otherwise
 called_crit : (due : Option ℕ) (c : Command) (y : Reply) (f : Frame) → (called due c y f).crit
     ≡ (if is_enter Crit c && is_done y then f.crit + 1 else (if is_leave Crit c && is_done y then f.crit - 1 else f.crit))
 called_crit due (StartWait m a) y f = refl
@@ -139,6 +155,7 @@ called_crit due (Raise l) Done f = refl
 called_crit due c Done f = refl
 called_crit due c y f = refl
 
+-- a call adds one to the guarded count if it enters, takes one off if it leaves, and keeps it otherwise
 called_guard : (due : Option ℕ) (c : Command) (y : Reply) (f : Frame) → (called due c y f).guard
     ≡ (if is_enter Guard c && is_done y then f.guard + 1 else (if is_leave Guard c && is_done y then f.guard - 1 else f.guard))
 called_guard due (StartWait m a) y f = refl
@@ -147,12 +164,14 @@ called_guard due (Raise l) Done f = refl
 called_guard due c Done f = refl
 called_guard due c y f = refl
 
+-- a command that enters a region doesn't leave it
 one_of : (r : Region) (c : Command) → is_enter r c ≡ true → is_leave r c ≡ false
 one_of Crit EnterCrit h = refl
 one_of Guard EnterGuard h = refl
 one_of Crit c h = cc
 one_of Guard c h = cc
 
+-- a call of a frame adds one to its calls that pass a test and are done, where it passes and is done
 pub count_done : (test : Command → Bool) (n : ℕ) (c : Command) (y : Reply) (e : Event) (past : List Event) → n < length past → e.what ≡ Call n c y →
     count_after (has_done test n) (phase_of n (e ∷ past)) (e ∷ past)
     ≡ (if test c && is_done y then suc (count_after (has_done test n) (phase_of n past) past) else count_after (has_done test n) (phase_of n past) past)
@@ -163,6 +182,7 @@ count_done test n c y e past l k =
     now : (nat_lt (phase_of n past) (length past) && has_done test n e.what) ≡ (test c && is_done y)
     now = rw (lt-ltb (phase_of n past) (length past) (phase_below n past l), k, eq-eqb n n refl) refl
 
+-- after a call the count of a region, one more or less by it, is the enters less the leaves
 net_called : (r : Region) (v n : ℕ) (c : Command) (y : Reply) (e : Event) (past : List Event) → n < length past → e.what ≡ Call n c y →
     ((is_leave r c && is_done y) ≡ true → 0 < v) → IsNet r v n past →
     IsNet r (if is_enter r c && is_done y then v + 1 else (if is_leave r c && is_done y then v - 1 else v)) n (e ∷ past)
@@ -184,6 +204,7 @@ positive : (k : ℕ) → (k == 0) ≡ false → 0 < k
 positive zero h = cc
 positive (suc k) h = omega arith
 
+-- a call that is done and leaves a critical region is by a frame that has entered one
 leave_crit : (s : Script) (p : CpuNo) (x : Own) (l : Lanes) (n : ℕ) (c : Command) (y : Reply) (k : KnownCall s p x l n c y) → (is_leave Crit c && is_done y)
     ≡ true → 0 < k.frame.crit
 leave_crit s p x l n LeaveCrit Done k h =
@@ -191,6 +212,7 @@ leave_crit s p x l n LeaveCrit Done k h =
     (next_test (nat_lt 1 (level_at x)) TooHigh _ (next_test (not (is_null x.frames.own)) NotThread _ (call_accepted s p x l n LeaveCrit Done k refl).0)))
 leave_crit s p x l n c y k h = cc
 
+-- a call that is done and leaves a guarded region is by a frame that has entered one
 leave_guard : (s : Script) (p : CpuNo) (x : Own) (l : Lanes) (n : ℕ) (c : Command) (y : Reply) (k : KnownCall s p x l n c y) → (is_leave Guard c && is_done y)
     ≡ true → 0 < k.frame.guard
 leave_guard s p x l n LeaveGuard Done k h =
@@ -198,6 +220,7 @@ leave_guard s p x l n LeaveGuard Done k h =
     (next_test (nat_lt 1 (level_at x)) TooHigh _ (next_test (not (is_null x.frames.own)) NotThread _ (call_accepted s p x l n LeaveGuard Done k refl).0)))
 leave_guard s p x l n c y k h = cc
 
+-- after a call the region counts of its frame are as its events tell
 call_counted : (s : Script) (p : CpuNo) (x : Own) (l : Lanes) (due : Option ℕ) (n : ℕ) (c : Command) (y : Reply) (f : Frame) (e : Event) (past : List Event)
     (k : KnownCall s p x l n c y) → k.frame ≡ f → f.name < length past → e.what ≡ Call n c y → IsCounted past f → IsCounted (e ∷ past) (called due c y f)
 call_counted s p x l due n c y f e past k same low w h =
@@ -214,22 +237,28 @@ call_counted s p x l due n c y f e past k same low w h =
 
 -- ---- each open frame
 
+-- a frame that is resumed keeps its region counts as told
 resumed_counted : (st : Option ℕ) (past : List Event) (f : Frame) → IsCounted past f → IsCounted past (resumed st f)
 resumed_counted None past f h = h
 resumed_counted (Some x) past f h = h
 
+-- a Rewait does nothing to the regions of a frame
 rewait_silent : (n m : ℕ) (y : Reply) (w : What) → w ≡ Rewait m y → IsSilent n w
 rewait_silent n m y w k = (ap (renews n) k, λ test. ap (has_done test n) k)
 
+-- a Free does nothing to the regions of a frame
 free_silent : (n m : ℕ) (c : LockNo) (w : What) → w ≡ Free m c → IsSilent n w
 free_silent n m c w k = (ap (renews n) k, λ test. ap (has_done test n) k)
 
+-- a Switch does nothing to the regions of a frame
 switch_silent : (n : ℕ) (t : ThreadNo) (st : Option ℕ) (w : What) → w ≡ Switch t st → IsSilent n w
 switch_silent n t st w k = (ap (renews n) k, λ test. ap (has_done test n) k)
 
+-- after an event that renews a frame's phase, its region counts are 0
 anew_counted : (e : Event) (past : List Event) (n : ℕ) → n < length past → renews n e.what ≡ true → IsNet Crit 0 n (e ∷ past) × IsNet Guard 0 n (e ∷ past)
 anew_counted e past n l h = (net_renewed Crit n e past l h, net_renewed Guard n e past l h)
 
+-- each event of a run keeps the region counts of its frame as the events tell
 counts_follow : (s : Script) (limit : ℕ) → Follows s limit IsCounted
 counts_follow s limit =
     record {
@@ -246,18 +275,22 @@ counts_follow s limit =
 
 -- ---- sums
 
+-- two sums over a list agree if they agree at each frame
 sum_same : (g h : Frame → ℕ) (fs : List Frame) (a : ℕ) → EachFrame (λ f. g f ≡ h f) fs → fold (λ b x. b + g x) a fs ≡ fold (λ b x. b + h x) a fs
 sum_same g h [] a k = refl
 sum_same g h (f ∷ fs) a k =
     ap (λ (v : ℕ). fold (λ b x. b + g x) (a + v) fs) k.0 ∙ sum_same g h fs (a + h f) k.1
 
+-- if P implies Q and P holds of each frame of a list, Q holds of each
 each_so : (P Q : Frame → Type 0) (fs : List Frame) → ((f : Frame) → P f → Q f) → EachFrame P fs → EachFrame Q fs
 each_so P Q [] h k = tt
 each_so P Q (f ∷ fs) h k = (h f k.0, each_so P Q fs h k.1)
 
+-- a net count is the enters less the leaves
 net_is : (r : Region) (k n : ℕ) (past : List Event) → IsNet r k n past → k ≡ entered r n past - exited r n past
 net_is r k n past h = omega (arith, h)
 
+-- if a normal APC is in progress on a thread, a frame of a normal APC is listed
 busy_forth : (P : ℕ → Body → Type 0) (fs : List Frame) → EachNamed P fs → busy_of fs ≡ true → (n : ℕ) × (b : Body) × P n b × (is_normal_apc_body b ≡ true)
 busy_forth P [] h k = cc
 busy_forth P (f ∷ fs) h k = go (is_normal_apc_body f.body) refl k (λ q. busy_forth P fs h.1 q)
@@ -267,6 +300,7 @@ busy_forth P (f ∷ fs) h k = go (is_normal_apc_body f.body) refl k (λ q. busy_
     go true e q ih = (f.name, f.body, h.0, e)
     go false e q ih = ih q
 
+-- if a frame of a normal APC is listed, a normal APC is in progress
 busy_back : (n : ℕ) (b : Body) (fs : List Frame) → is_normal_apc_body b ≡ true → HasFrame n b fs → busy_of fs ≡ true
 busy_back n b [] h k = absurd k
 busy_back n b (f ∷ fs) h (inl k) =
@@ -277,6 +311,7 @@ busy_back n b (f ∷ fs) h (inr k) = or_so (is_normal_apc_body f.body) (busy_of 
     or_so true c q = refl
     or_so false c q = q
 
+-- in a run the regions of a thread are the accepted enters less the accepted leaves of its open frames
 pub regions_counted : (s : Script) (limit : ℕ) (t : ThreadNo) (past : List Event) → IsRun s limit past →
     RegionsCounted s t past (thread_frames s (cpu_of s t) t past)
 regions_counted s limit t past r =

@@ -27,6 +27,7 @@ use Rattle.nt_readings.specs.Seen.{IsAsk, IsLookedAt, IsMet, IsNoticed, IsNotice
 
 -- ---- positions
 
+-- the number of an event of which something holds is below the length of the history
 pub at_before : (P : Event → List Event → Type 0) (n : ℕ) (past : List Event) → At P n past → n < length past
 at_before P n [] h = absurd h
 at_before P n (e ∷ past) (inl h) = let k = h.0 in omega (arith, k)
@@ -34,6 +35,7 @@ at_before P n (e ∷ past) (inr h) = let k = at_before P n past h in omega (arit
 
 -- ---- lanes
 
+-- a lane is the same as itself
 lane_itself : (x : Lane) → same_lane x x ≡ true
 lane_itself (ObjectLane d) = eq-eqb d.0 d.0 refl
 lane_itself (QueueLane p) = eq-eqb p.0 p.0 refl
@@ -41,6 +43,7 @@ lane_itself (ThreadsLane p) = eq-eqb p.0 p.0 refl
 lane_itself TimersLane = refl
 lane_itself (LockLane k) = eq-eqb k.0 k.0 refl
 
+-- two lanes that pass the test for equality are the same
 lane_is : (x y : Lane) → same_lane x y ≡ true → x ≡ y
 lane_is (ObjectLane d) (ObjectLane x) h = ap (λ (n : ℕ). ObjectLane (record { 0 = n })) (sym (eqb-true x.0 d.0 h))
 lane_is (QueueLane p) (QueueLane x) h = ap (λ (n : ℕ). QueueLane (record { 0 = n })) (sym (eqb-true x.0 p.0 h))
@@ -51,6 +54,7 @@ lane_is x y h = cc
 
 -- ---- values
 
+-- the greater of two numbers is one of them
 max_is : (a b : ℕ) → (max a b ≡ a) ⊎ (max a b ≡ b)
 max_is a b = go (nat_lt a b) refl
   where
@@ -58,6 +62,7 @@ max_is a b = go (nat_lt a b) refl
     go true e = let l = ltb-true a b e in inr (omega (arith, l))
     go false e = let l = ltb-false a b e in inl (omega (arith, l))
 
+-- a value above a number stays above it when it is raised to that of a later event
 raised_at_least : (b : Bool) (n m old : ℕ) → m < n → m + 1 ≤ old → m + 1 ≤ raised b n old
 raised_at_least true n m old l h = omega (arith, l)
 raised_at_least false n m old l h = h
@@ -68,6 +73,7 @@ raised_at_least false n m old l h = h
 abbrev IsOfAsk : Script → CpuNo → ℕ → ℕ → List Event → Type 0
 IsOfAsk s p c v past = (n : ℕ) × (v ≡ n + 1) × IsAsk s p c n past
 
+-- a value that passes the test for an ask is one more than the number of an ask
 was_ask : (s : Script) (p : CpuNo) (c v : ℕ) (past : List Event) → was_asked s p c v past ≡ true → IsOfAsk s p c v past
 was_ask s p c v [] h = cc
 was_ask s p c v (e ∷ past) h =
@@ -79,6 +85,7 @@ was_ask s p c v (e ∷ past) h =
     go true false e1 e2 x ih = let r = ih x in (r.0, r.1, inr r.2)
     go false b e1 e2 x ih = let r = ih x in (r.0, r.1, inr r.2)
 
+-- each value of a Look that is well formed is 0 or one more than the number of an ask
 rises_ask : (s : Script) (p : CpuNo) (k i : ℕ) (vs : List ℕ) (x : Own) (past : List Event) → good_rises s p k vs x past ≡ true → (value_at vs i ≡ 0) ⊎
     IsOfAsk s p (k + i) (value_at vs i) past
 rises_ask s p k i [] x past h = inl refl
@@ -96,6 +103,7 @@ rises_ask s p k (suc i) (v ∷ vs) x past h =
     let e : k + suc i ≡ suc k + i = omega arith in
     rw e (rises_ask s p (suc k) i vs x past (both ((v == 0) || (nat_lt (value_at x.seen k) v && was_asked s p k v past)) _ h).1)
 
+-- a value that a Look of a run shows is 0 or one more than the number of an ask
 look_ask : (s : Script) (limit : ℕ) (c : ℕ) (e : Event) (past : List Event) (w : What) → e.what ≡ w → IsLegal s limit e past → (looked w c ≡ 0) ⊎
     IsOfAsk s e.cpu c (looked w c) past
 look_ask s limit c e past (Look r) k g =
@@ -131,6 +139,7 @@ met_below s p n (e ∷ past) (inr h) = let k = met_below s p n past h in omega (
 
 -- ---- what lanes tell
 
+-- an ask that touched a lane is told by that lane, so the lane's value is above its number
 told_of : (s : Script) (x : Lane) (p : CpuNo) (c n : ℕ) (past : List Event) → IsAsk s p c n past → IsTouch s x n past → n + 1 ≤ told_by s x p c past
 told_of s x p c n [] a t = absurd a
 told_of s x p c n (e ∷ past) (inl a) (inl t) =
@@ -149,6 +158,7 @@ told_of s x p c n (e ∷ past) (inr a) (inr t) =
     raised_at_least (touches s x e past && asks s p c e past) (length past) n (told_by s x p c past)
     (at_before (λ e before. asks s p c e before ≡ true) n past a) (told_of s x p c n past a t)
 
+-- an ask that touched one of several lanes is told by them all together
 all_told_of : (s : Script) (x : Lane) (xs : List Lane) (p : CpuNo) (c n : ℕ) (past : List Event) → list_any (same_lane x) xs ≡ true → IsAsk s p c n past →
     IsTouch s x n past → n + 1 ≤ told_by_all s xs p c past
 all_told_of s x [] p c n past h a t = cc
@@ -165,6 +175,7 @@ all_told_of s x (y ∷ ys) p c n past h a t =
 abbrev IsOfTouch : Script → Lane → CpuNo → ℕ → ℕ → List Event → Type 0
 IsOfTouch s x p c v past = (n : ℕ) × (v ≡ n + 1) × IsAsk s p c n past × IsTouch s x n past
 
+-- a lane's value above 0 is one more than the number of an ask that touched the lane
 told_comes : (s : Script) (x : Lane) (p : CpuNo) (c : ℕ) (past : List Event) → 0 < told_by s x p c past → IsOfTouch s x p c (told_by s x p c past) past
 told_comes s x p c [] h = absurd (omega (arith, h))
 told_comes s x p c (e ∷ past) h =
@@ -180,10 +191,12 @@ told_comes s x p c (e ∷ past) h =
 abbrev IsOfSome : Script → List Lane → CpuNo → ℕ → ℕ → List Event → Type 0
 IsOfSome s xs p c v past = (x : Lane) × (list_any (same_lane x) xs ≡ true) × IsOfTouch s x p c v past
 
+-- an "or" is true if its second side is true
 or_true : (a b : Bool) → b ≡ true → (a || b) ≡ true
 or_true true b h = refl
 or_true false b h = h
 
+-- the joint value of several lanes, if above 0, comes from an ask that touched one of them
 all_told_comes : (s : Script) (xs : List Lane) (p : CpuNo) (c : ℕ) (past : List Event) → 0 < told_by_all s xs p c past →
     IsOfSome s xs p c (told_by_all s xs p c past) past
 all_told_comes s [] p c past h = absurd (omega (arith, h))
@@ -203,6 +216,7 @@ all_told_comes s (y ∷ ys) p c past h =
 
 -- ---- each ask that was noticed is at most what was seen
 
+-- what a processor has seen is above the number of each ask that it noticed
 below_seen : (s : Script) (limit : ℕ) (p : CpuNo) (c n : ℕ) (past : List Event) → IsRun s limit past → IsAsk s p c n past → IsNoticed s p c n past →
     n + 1 ≤ seen s p c past
 below_seen s limit p c n [] r a k = absurd a
@@ -254,11 +268,13 @@ below_seen s limit p c n (e ∷ past) r a k =
 abbrev IsOfNoticed : Script → CpuNo → ℕ → ℕ → List Event → Type 0
 IsOfNoticed s p c v past = (n : ℕ) × (v ≡ n + 1) × IsAsk s p c n past × IsNoticed s p c n past
 
+-- an event that a processor noticed is still noticed after a later event
 lift_noticed : (s : Script) (p : CpuNo) (c n : ℕ) (e : Event) (past : List Event) → IsNoticed s p c n past → IsNoticed s p c n (e ∷ past)
 lift_noticed s p c n e past (inl h) = inl (inr h)
 lift_noticed s p c n e past (inr (inl h)) = inr (inl (inr h))
 lift_noticed s p c n e past (inr (inr h)) = inr (inr (inr h))
 
+-- what a processor has seen, if above 0, comes from an ask that it noticed
 seen_comes : (s : Script) (limit : ℕ) (p : CpuNo) (c : ℕ) (past : List Event) → IsRun s limit past → 0 < seen s p c past →
     IsOfNoticed s p c (seen s p c past) past
 seen_comes s limit p c [] r h = absurd (omega (arith, h))
@@ -310,6 +326,7 @@ seen_comes s limit p c (e ∷ past) r h =
 
 -- ---- so it is the greatest
 
+-- a number above each of which P holds, and one more than one of them if above 0, is the greatest next
 greatest_next : (P : ℕ → Type 0) (v : ℕ) → ((n : ℕ) → P n → n + 1 ≤ v) → (0 < v → (n : ℕ) × (v ≡ n + 1) × P n) → IsGreatestNext P v
 greatest_next P zero low comes = inl (refl, λ n h. let l = low n h in omega (arith, l))
 greatest_next P (suc v) low comes =
@@ -317,6 +334,7 @@ greatest_next P (suc v) low comes =
     let e = a.1 in
     inr (a.0, a.1, a.2, λ m h. let l = low m h in omega (arith, l, e))
 
+-- in a run, what a processor has seen of a class is one more than the last ask that it noticed, else 0
 pub seen_greatest : (s : Script) (limit : ℕ) (p : CpuNo) (c : ℕ) (past : List Event) → IsRun s limit past →
     IsGreatestNext (IsNoticedAsk s p c past) (seen s p c past)
 seen_greatest s limit p c past r =

@@ -29,11 +29,13 @@ pub none_after : (P : Event → List Event → Type 0) (n : ℕ) (past : List Ev
 none_after P n [] h = tt
 none_after P n (e ∷ past) h = (λ l. absurd (omega (arith, h, l)), none_after P n past (omega (arith, h)))
 
+-- anything holds of each event after the last one, as there is none
 pub none_yet : (P : Event → List Event → Type 0) (n : ℕ) (e : Event) (past : List Event) → length past ≤ n → EachAfter P n (e ∷ past)
 none_yet P n e past l = (λ h. absurd (omega (arith, h, l)), none_after P n past l)
 
 -- ---- which events serve a class
 
+-- a class in a list whose classes are all above 2 is above 2
 above_two : (c : ℕ) (ks : List ℕ) → list_all (λ k. nat_lt 2 k) ks ≡ true → list_any (λ k. k == c) ks ≡ true → 2 < c
 above_two c [] h a = cc
 above_two c (k ∷ ks) h a = go (k == c) refl a (λ b. above_two c ks (both (nat_lt 2 k) _ h).1 b)
@@ -50,10 +52,12 @@ no_interrupt : (c : ℕ) → list_any (λ k. k == c) interrupt_classes ≡ true 
 no_interrupt c a e =
     let no : list_any (λ k. k == lock_class) interrupt_classes ≡ true = subst (λ (n : ℕ). list_any (λ k. k == n) interrupt_classes ≡ true) e a in cc
 
+-- a reply that passes the test for spin is Spin
 spin_is : (y : Reply) → is_spin y ≡ true → y ≡ Spin
 spin_is Spin h = refl
 spin_is y h = cc
 
+-- the class of a Clean of a run is below 3
 clean_low : (s : Script) (limit : ℕ) (k : ℕ) (e : Event) (past : List Event) → IsLegal s limit e past → e.what ≡ Clean k → k < 3
 clean_low s limit k e past g q = go known
   where
@@ -65,6 +69,7 @@ clean_low s limit k e past g q = go known
     go (inr (inl h)) = let n = h.0 in omega (arith, n)
     go (inr (inr h)) = let n = h.0 in omega (arith, n)
 
+-- an event of a run that passes the test for serving a class serves it
 serving : (s : Script) (limit : ℕ) (c : ℕ) (e : Event) (past : List Event) (w : What) → IsLegal s limit e past → e.what ≡ w → serves c w ≡ true → IsServing c w
 serving s limit c e past (Clean k) g q h =
     let n : k ≡ c = eqb-true k c h in
@@ -80,6 +85,7 @@ serving s limit c e past (Call f command y) g q h =
     let k = both (c == lock_class) (is_spin y) h in (eqb-true c lock_class k.0, spin_is y k.1)
 serving s limit c e past w g q h = cc
 
+-- an event that serves a class passes the test for it
 serves_so : (c : ℕ) (w : What) → IsServing c w → serves c w ≡ true
 serves_so c (Clean k) h = eq-eqb k c h.0
 serves_so c (Begin (Int level) from) h = eq-eqb level c h.0
@@ -88,9 +94,11 @@ serves_so c w h = absurd h
 
 -- ---- the last service
 
+-- an event that fails the test for serving a class is no service of it
 no_service : (p : CpuNo) (c : ℕ) (e : Event) (before : List Event) → serves c e.what ≡ false → IsNoService p c e before
 no_service p c e before h o k = let t = serves_so c e.what k in cc
 
+-- an event of another processor is no service of a class on this one
 other_cpu : (p : CpuNo) (c : ℕ) (e : Event) (before : List Event) → is_of e p ≡ false → IsNoService p c e before
 other_cpu p c e before h o k = cc
 
@@ -99,6 +107,7 @@ stays_served : (s : Script) (p : CpuNo) (c v : ℕ) (e : Event) (past : List Eve
 stays_served s p c v e past n (inl h) = inl (h.0, (n, h.1))
 stays_served s p c v e past n (inr h) = inr (h.0, inr h.1, (λ l. n, h.2))
 
+-- in a run, what a processor has served of a class is what it had seen just after it last served it, else 0
 pub served_last : (s : Script) (limit : ℕ) (p : CpuNo) (c : ℕ) (past : List Event) → IsRun s limit past → IsServed s p c (served s p c past) past
 served_last s limit p c [] r = inl (refl, tt)
 served_last s limit p c (e ∷ past) r =

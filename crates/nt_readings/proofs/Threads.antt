@@ -55,6 +55,7 @@ part_of s t past = thread_frames s (cpu_of s t) t past
 
 -- ---- positions
 
+-- some event of a history passes a test, or all fail it
 pub some_or_all : (test : Event → Bool) (past : List Event) → Somewhere (λ e before. test e ≡ true) past ⊎ Everywhere (λ e before. test e ≡ false) past
 some_or_all test [] = inr tt
 some_or_all test (e ∷ past) = go (test e) refl (some_or_all test past)
@@ -65,19 +66,23 @@ some_or_all test (e ∷ past) = go (test e) refl (some_or_all test past)
     go false q (inl k) = inl (inr k)
     go false q (inr k) = inr (q, k)
 
+-- what holds of every event holds of each event after a given one
 pub everywhere_after : (P : Event → List Event → Type 0) (n : ℕ) (past : List Event) → Everywhere P past → EachAfter P n past
 everywhere_after P n [] h = tt
 everywhere_after P n (e ∷ past) h = (λ l. h.0, everywhere_after P n past h.1)
 
+-- what holds of no event holds at no position
 pub at_never : (P : Event → List Event → Type 0) (n : ℕ) (past : List Event) → ((e : Event) (before : List Event) → P e before → ⊥) → At P n past → ⊥
 at_never P n past none h = at_both P P n past h h (λ e before x y. none e before x)
 
 -- ---- whose event it is
 
+-- in a run an event that a thread makes is one of the thread's processor
 pub named_cpu : (s : Script) (limit : ℕ) (t : ThreadNo) (e : Event) (past : List Event) → IsRun s limit (e ∷ past) → is_by e t ≡ true → is_of e (cpu_of s t)
     ≡ true
 named_cpu s limit t e past r b = eq-eqb e.cpu.0 (cpu_of s t).0 (named_here s limit t e past r.0 r.1 b)
 
+-- an event that isn't a thread's leaves the frames on the thread's part as they were
 pub part_same : (s : Script) (t : ThreadNo) (e : Event) (past : List Event) → is_by e t ≡ false → part_of s t (e ∷ past) ≡ part_of s t past
 part_same s t e past b = go (is_of e (cpu_of s t)) refl
   where
@@ -85,6 +90,7 @@ part_same s t e past b = go (is_of e (cpu_of s t)) refl
     go true h = frames_when s (cpu_of s t) t e past false h b
     go false h = rw h
 
+-- in a run an event that a thread makes changes the frames on its part as the event says
 pub part_moves : (s : Script) (limit : ℕ) (t : ThreadNo) (e : Event) (past : List Event) → IsRun s limit (e ∷ past) → is_by e t ≡ true → part_of s t (e ∷ past)
     ≡ thread_after s (length past) (due_of e.what (time past)) e.what (part_of s t past)
 part_moves s limit t e past r b = frames_when s (cpu_of s t) t e past true (named_cpu s limit t e past r b) b
@@ -93,6 +99,7 @@ part_moves s limit t e past r b = frames_when s (cpu_of s t) t e past true (name
 abbrev IsMadeBy : Script → ThreadNo → Event → List Event → Type 0
 IsMadeBy s t e past = ((st : Option ℕ) × (e.what ≡ Switch t st)) ⊎ ((is_next e.what ≡ true) × (running (cpu_of s t) past ≡ Some t))
 
+-- in a run an event that a thread makes is a Switch to it or was made while it ran
 pub made_by : (s : Script) (limit : ℕ) (t : ThreadNo) (e : Event) (past : List Event) → IsRun s limit (e ∷ past) → is_by e t ≡ true → IsMadeBy s t e past
 made_by s limit t e past r b = go e.what refl
   where
@@ -115,6 +122,7 @@ goner s limit u e past r k =
     (legal_known s limit e past r.0 (ap is_next k)) in
     (thread_named s limit e past r.0 ∙ (ap (λ (w : What). thread_field w (running e.cpu past)) k ∙ known.0.thread), known.0)
 
+-- in a run an event that isn't a thread's is not its Gone
 pub lives : (s : Script) (limit : ℕ) (t : ThreadNo) (e : Event) (past : List Event) (w : What) → IsRun s limit (e ∷ past) → is_by e t ≡ false → e.what ≡ w →
     ends_thread t w ≡ false
 lives s limit t e past (Gone u) r b k =
@@ -123,6 +131,7 @@ lives s limit t e past w r b k = refl
 
 -- ---- a gone thread stays gone
 
+-- a thread that a run switches to is ready just before
 ready_thread : (s : Script) (limit : ℕ) (t : ThreadNo) (st : Option ℕ) (e : Event) (past : List Event) → IsLegal s limit e past → e.what ≡ Switch t st →
     is_ready (facts s t past) ≡ true
 ready_thread s limit t st e past g k =
@@ -131,13 +140,16 @@ ready_thread s limit t st e past g k =
     let b = both ((cpu_of s t).0 == e.cpu.0) _ a.1 in
     subst (λ (x : ThreadFacts). is_ready x ≡ true) (facts_there s limit t past a.0) b.1
 
+-- a thread that is gone isn't ready
 gone_not_ready : (x : ThreadFacts) → x.doing ≡ IsGone → is_ready x ≡ true → ⊥
 gone_not_ready x h k =
     let z : is_ready x ≡ false = ap (λ (d : Doing). ready_doing d) h in both_ways (is_ready x) z k
 
+-- being gone isn't running
 gone_not_running : IsRunning ≡ IsGone → ⊥
 gone_not_running h = cc
 
+-- in a run a thread that had its Gone is gone
 pub doing_gone : (s : Script) (limit : ℕ) (t : ThreadNo) (past : List Event) → IsRun s limit past → Somewhere (λ e before. ends_thread t e.what ≡ true) past →
     (facts s t past).doing ≡ IsGone
 doing_gone s limit t [] r h = absurd h
@@ -192,6 +204,7 @@ live s limit t st e past r k = go (some_or_all (λ e. ends_thread t e.what) past
 
 -- ---- a thread that was never taken up has no frame
 
+-- a thread that runs after an event was switched to by it or ran before
 pub ran_on : (w : What) (r : Option ThreadNo) (t : ThreadNo) → running_after w r ≡ Some t → (switches_to t w ≡ true) ⊎ (r ≡ Some t)
 ran_on (Switch u st) r t h = let same : u ≡ t = cc in inl (eq-eqb u.0 t.0 (ap (λ (v : ThreadNo). v.0) same))
 ran_on (Gone u) r t h = cc
@@ -200,6 +213,7 @@ ran_on (Call f c Blocked) r t h = cc
 ran_on (Rewait f Blocked) r t h = cc
 ran_on w r t h = inr h
 
+-- a thread that runs on a processor was switched to by some event
 run_switched : (p : CpuNo) (t : ThreadNo) (past : List Event) → running p past ≡ Some t → Everywhere (λ e before. switches_to t e.what ≡ false) past → ⊥
 run_switched p t [] h k = cc
 run_switched p t (e ∷ past) h k = go (is_of e p) h (λ q. run_switched p t past q k.1)
@@ -212,6 +226,7 @@ run_switched p t (e ∷ past) h k = go (is_of e p) h (λ q. run_switched p t pas
     go true q ih = own (ran_on e.what (running p past) t q) ih
     go false q ih = ih q
 
+-- a thread that was never switched to has no frames on its part
 none_switched : (s : Script) (limit : ℕ) (t : ThreadNo) (past : List Event) → IsRun s limit past → Everywhere (λ e before. switches_to t e.what ≡ false) past →
     part_of s t past ≡ []
 none_switched s limit t [] r h = refl
@@ -228,6 +243,7 @@ none_switched s limit t (e ∷ past) r h = go (is_by e t) refl (none_switched s 
 
 -- ---- each open frame is among them
 
+-- an event that begins an inner frame begins no base frame
 inner_not_base : (s : Script) (w : What) (b : Body) → begun_inner s w ≡ Some b → is_base_body b ≡ true → ⊥
 inner_not_base s (Begin (Apc a) from) (OnBase t) h k = cc
 inner_not_base s (Flush a from) (OnBase t) h k = go (rundown_of s a) h
@@ -238,6 +254,7 @@ inner_not_base s (Flush a from) (OnBase t) h k = go (rundown_of s a) h
 inner_not_base s w (OnBase t) h k = cc
 inner_not_base s w b h k = cc
 
+-- a base frame, or one of another name, is still listed after a frame ends on a thread
 has_end : (n m : ℕ) (b : Body) (fs : List Frame) → (is_base_body b ≡ true) ⊎ ((m == n) ≡ false) → HasFrame n b fs → HasFrame n b (end_on_thread m fs)
 has_end n m b [] d h = h
 has_end n m b (f ∷ fs) d h = go (f.name == m) (is_base_body f.body) refl refl d h
@@ -255,6 +272,7 @@ abbrev is_gone_of : What → Bool
 is_gone_of (Gone t) = true
 is_gone_of w = false
 
+-- a frame of a thread's part is still there after an event of the thread that neither ends it nor is a Gone
 part_stays : (s : Script) (n m : ℕ) (b : Body) (due : Option ℕ) (w : What) (fs : List Frame) → is_gone_of w ≡ false → (is_base_body b ≡ true) ⊎
     (ends_frame n w ≡ false) → HasFrame n b fs → HasFrame n b (thread_after s m due w fs)
 part_stays s n m b due (Switch t st) [] g d h = absurd h
@@ -275,12 +293,14 @@ part_stays s n m b due (End f) fs g d h = has_end n f b fs d h
 part_stays s n m b due (Gone t) fs g d h = cc
 part_stays s n m b due w fs g d h = h
 
+-- a Switch to a thread with no frames begins its base frame
 base_new : (s : Script) (t : ThreadNo) (n : ℕ) (due : Option ℕ) (w : What) (fs : List Frame) → switches_to t w ≡ true → fs ≡ [] →
     HasFrame n (OnBase t) (thread_after s n due w fs)
 base_new s t n due (Switch u st) [] h k = inl (refl, ap (λ (m : ℕ). OnBase (record { 0 = m })) (eqb-true u.0 t.0 h))
 base_new s t n due (Switch u st) (f ∷ fs) h k = cc
 base_new s t n due w fs h k = cc
 
+-- a frame that an event begins on a thread's part is there after the event
 inner_new : (s : Script) (n : ℕ) (b : Body) (due : Option ℕ) (w : What) (fs : List Frame) → begun_inner s w ≡ Some b → HasFrame n b (thread_after s n due w fs)
 inner_new s n b due (Begin (Apc a) from) fs h = let same : OnApc a (kind_of s a) ≡ b = cc in inl (refl, same)
 inner_new s n b due (Flush a from) fs h = go (rundown_of s a) h
@@ -299,6 +319,7 @@ alone t f (g ∷ (x ∷ fs)) h l b =
     let same : g ≡ f = cc in
     absurd (both_ways f.leaving (ap (λ (x : Frame). x.leaving) (sym same) ∙ b.0.1) l)
 
+-- a thread that is gone by an event had only its base frame just before
 gone_alone : (s : Script) (limit : ℕ) (t u : ThreadNo) (e : Event) (past : List Event) → IsRun s limit (e ∷ past) → is_by e t ≡ true → e.what ≡ Gone u →
     (f : Frame) × (part_of s t past ≡ f ∷ []) × (f.body ≡ OnBase t)
 gone_alone s limit t u e past r b k =
@@ -314,12 +335,14 @@ gone_alone s limit t u e past r b k =
     ∙ ap (λ (q : CpuNo). thread_frames s q t past) (same_cpu e (cpu_of s t) (named_cpu s limit t e past r b)) in
     (g.1.frame, sym part ∙ one.0, one.1)
 
+-- a Switch to a thread in a run is made by that thread
 switch_by : (s : Script) (limit : ℕ) (t : ThreadNo) (e : Event) (past : List Event) (w : What) → IsLegal s limit e past → e.what ≡ w → switches_to t w ≡ true →
     is_by e t ≡ true
 switch_by s limit t e past (Switch u st) g k h =
     ap (λ (o : Option ThreadNo). is_thread o t) (thread_named s limit e past g ∙ ap (λ (w : What). thread_field w (running e.cpu past)) k) ∙ h
 switch_by s limit t e past w g k h = cc
 
+-- in a run each open frame of a thread is on the thread's part
 pub part_has : (s : Script) (limit : ℕ) (t : ThreadNo) (n : ℕ) (b : Body) (past : List Event) → IsRun s limit past → IsOpenOn s t past n b →
     HasFrame n b (part_of s t past)
 part_has s limit t n b [] r (inl h) = h.1
@@ -393,6 +416,7 @@ part_has s limit t n b (e ∷ past) r h = go (is_by e t) refl h (λ k. part_has 
 
 -- ---- the first Switch to a thread
 
+-- if some event switches to a thread, one event is the first to do so
 first_switch : (t : ThreadNo) (past : List Event) → Somewhere (λ e before. switches_to t e.what ≡ true) past → (n : ℕ) × At (IsFirstSwitch t) n past
 first_switch t [] h = absurd h
 first_switch t (e ∷ past) h = go h (some_or_all (λ e. switches_to t e.what) past) (λ k. first_switch t past k)
@@ -420,6 +444,7 @@ first_time s limit t st e past r k none = go (some_or_all (λ e. switches_to t e
 
 -- ---- they are open
 
+-- a frame that is open on a thread is still open after an event that ends neither it nor the thread
 on_lift : (s : Script) (t : ThreadNo) (e : Event) (past : List Event) (n : ℕ) (b : Body) → ends_thread t e.what ≡ false →
     (IsOpenInner s t past n b → ends_frame n e.what ≡ false) → IsOpenOn s t past n b → IsOpenOn s t (e ∷ past) n b
 on_lift s t e past n b g d (inl h) = inl (h.0, inr h.1, ((λ l. g), h.2))
@@ -492,6 +517,7 @@ part_end s t e past g (x ∷ fs) k f d h =
       rest,
     )
 
+-- in a run each frame on a thread's part is open there
 pub part_open : (s : Script) (limit : ℕ) (t : ThreadNo) (past : List Event) → IsRun s limit past → EachNamed (IsOpenOn s t past) (part_of s t past)
 part_open s limit t [] r = tt
 part_open s limit t (e ∷ past) r = go (is_by e t) refl (part_open s limit t past r.1)
@@ -553,6 +579,7 @@ part_open s limit t (e ∷ past) r = go (is_by e t) refl (part_open s limit t pa
         (each_map (IsOpenOn s t past) (IsOpenOn s t (e ∷ past)) (part_of s t past)
         (λ n b q. on_lift s t e past n b (lives s limit t e past e.what r i refl) (λ j. goes_on s limit t e past n b e.what r i refl j) q) h)
 
+-- in a run the frames on a thread's part are exactly the open ones, the greatest number first
 pub thread_lists : (s : Script) (limit : ℕ) (t : ThreadNo) (past : List Event) → IsRun s limit past → Lists (IsOpenOn s t past) (length past) (part_of s t past)
 thread_lists s limit t past r =
     record { each = part_open s limit t past r; all = λ n b h. part_has s limit t n b past r h; falls = thread_falls s (cpu_of s t) t past }

@@ -33,30 +33,37 @@ use Rattle.nt_readings.specs.Timers.{blocked_due, cancels_timer, due_blocked, ex
 use Rattle.nt_readings.proofs.Seen.{at_before}
 use Rattle.nt_readings.proofs.Served.{none_after}
 
+-- from false being true anything follows
 no_bool : {A : Type 0} → false ≡ true → A
 no_bool h = cc
 
+-- from no setting being some setting anything follows
 none_some : {A : Type 0} (x : Setting) → ◌≡◌ {A = Option Setting} None (Some x) → A
 none_some x h = cc
 
+-- two settings that are equal as options are equal
 same_some : (x y : Setting) → ◌≡◌ {A = Option Setting} (Some x) (Some y) → x ≡ y
 same_some x y h = cc
 
 -- ---- what an event leaves of a timer
 
+-- a `settimer` sets a timer with its due time, number and period
 timer_set : (t : TimerNo) (n now : ℕ) (w : What) (old : Option Setting) → sets_timer t w ≡ true → timer_after t n now w old
     ≡ Some (record { due = now + named_due w; number = n; period = named_period w })
 timer_set t n now (Call f (SetTimer x due period) y) old h = rw h refl
 timer_set t n now w old h = cc
 
+-- a `canceltimer` that is answered yes leaves the timer unset
 timer_cancelled : (t : TimerNo) (n now : ℕ) (w : What) (old : Option Setting) → cancels_timer t w ≡ true → timer_after t n now w old ≡ None
 timer_cancelled t n now (Call f (CancelTimer x) Yes) old h = rw h refl
 timer_cancelled t n now w old h = cc
 
+-- the expiry of a timer leaves it as renewed: set anew if it has a period, else unset
 timer_expired : (t : TimerNo) (n now : ℕ) (w : What) (old : Option Setting) → expires_timer t w ≡ true → timer_after t n now w old ≡ renewed n now old
 timer_expired t n now (Expire (OfTimer x) from) old h = rw h refl
 timer_expired t n now w old h = cc
 
+-- an event that neither sets, cancels nor expires a timer leaves it as it was
 timer_left : (t : TimerNo) (n now : ℕ) (w : What) (old : Option Setting) → sets_timer t w ≡ false → cancels_timer t w ≡ false → expires_timer t w ≡ false →
     timer_after t n now w old ≡ old
 timer_left t n now (Call f (SetTimer x due period) y) old h k l = rw h refl
@@ -69,6 +76,7 @@ expiry_alone : (t : TimerNo) (w : What) → expires_timer t w ≡ true → (sets
 expiry_alone t (Expire (OfTimer x) from) h = (refl, refl)
 expiry_alone t w h = cc
 
+-- a number that isn't 0 is above 0
 positive : (k : ℕ) → (k == 0) ≡ false → 0 < k
 positive zero h = cc
 positive (suc k) h = omega arith
@@ -96,6 +104,7 @@ renewed_some n now (Some y) x h = go (y.period == 0) refl h
           ap (λ (z : Setting). z.number) (sym same),
         )
 
+-- an expired timer with a period above 0 is set anew, due a period later
 renewed_so : (n now : ℕ) (y : Setting) → 0 < y.period → renewed n now (Some y) ≡ Some (anew n now y)
 renewed_so n now y h = go (y.period == 0) refl
   where
@@ -111,6 +120,7 @@ IsSetSo t x past = IsTimerSet t x past × IsPeriod t x.period past
 abbrev KeepsPeriod : TimerNo → Event → List Event → Type 0
 KeepsPeriod t e before = (sets_timer t e.what ≡ false) × (cancels_timer t e.what ≡ false)
 
+-- a timer that is set was set by its last set event, with that event's period
 set_forth : (t : TimerNo) (x : Setting) (past : List Event) → timer_setting t past ≡ Some x → IsSetSo t x past
 set_forth t x [] h = none_some x h
 set_forth t x (e ∷ past) h = go (sets_timer t e.what) (cancels_timer t e.what) (expires_timer t e.what) refl refl refl (λ y k. set_forth t y past k)
@@ -154,6 +164,7 @@ set_forth t x (e ∷ past) h = go (sets_timer t e.what) (cancels_timer t e.what)
 abbrev HasPeriod : TimerNo → ℕ → List Event → Type 0
 HasPeriod t p past = (y : Setting) × (timer_setting t past ≡ Some y) × (y.period ≡ p)
 
+-- a timer with a period, not cancelled since its last `settimer`, is set with that period
 period_has : (t : TimerNo) (p : ℕ) (past : List Event) → 0 < p → IsPeriod t p past → HasPeriod t p past
 period_has t p [] more h = absurd h.1
 period_has t p (e ∷ past) more h = go h.1 (λ a b. period_has t p past more (h.0, a, b))
@@ -182,10 +193,12 @@ period_has t p (e ∷ past) more h = go h.1 (λ a b. period_has t p past more (h
         let k = h.2.0 (at_before (λ x before. (sets_timer t x.what ≡ true) × (p ≡ named_period x.what)) h.0 past a) in
         later (expires_timer t e.what) refl k.0 k.1 (ih a h.2.1)
 
+-- a setting with these fields is the setting made of them
 setting_is : (x : Setting) (due number period : ℕ) → x.due ≡ due → x.number ≡ number → x.period ≡ period →
     record { due = due; number = number; period = period } ≡ x
 setting_is x due number period a b c = λ i. record { due = (sym a) i; number = (sym b) i; period = (sym c) i }
 
+-- a timer is set as its last set event says, if it wasn't cancelled or expired since
 set_back : (t : TimerNo) (x : Setting) (past : List Event) → IsTimerSet t x past → timer_setting t past ≡ Some x
 set_back t x [] h = absurd h.1
 set_back t x (e ∷ past) h = go h.1 (λ a b. set_back t x past (h.0, a, b))
@@ -214,11 +227,13 @@ set_back t x (e ∷ past) h = go h.1 (λ a b. set_back t x past (h.0, a, b))
         let k = h.2.0 (at_before (IsTimerSetBy t x) h.0 past a) in
         timer_left t (length past) (time past) e.what (timer_setting t past) k.0 k.1 k.2 ∙ ih a h.2.1
 
+-- a timer has a setting exactly where its last set event gave it and it wasn't cancelled or expired since
 pub timers_set_last : (t : TimerNo) (x : Setting) (past : List Event) → (timer_setting t past ≡ Some x) ↔ IsTimerSet t x past
 timers_set_last t x past = (λ h. (set_forth t x past h).0, λ h. set_back t x past h)
 
 -- ---- a delay that is set
 
+-- an event that blocks in a delay sets the delay with its due time and number
 delay_blocked : (n now : ℕ) (again : Option Again) (w : What) (old : Option Setting) (due : ℕ) → blocked_due now again w ≡ Some due →
     blocked_after n now again w old ≡ Some (record { due = due; number = n; period = 0 })
 delay_blocked n now again (Call f (Delay m a units) Blocked) old due h =
@@ -226,19 +241,23 @@ delay_blocked n now again (Call f (Delay m a units) Blocked) old due h =
 delay_blocked n now again (Rewait f Blocked) old due h = ap (λ (o : Option ℕ). delay_set n o old) h
 delay_blocked n now again w old due h = cc
 
+-- an event that blocks in no delay leaves the delay's setting as it was
 delay_not : (n now : ℕ) (again : Option Again) (w : What) (old : Option Setting) → blocked_due now again w ≡ None → blocked_after n now again w old ≡ old
 delay_not n now again (Call f (Delay m a units) Blocked) old h = cc
 delay_not n now again (Rewait f Blocked) old h = ap (λ (o : Option ℕ). delay_set n o old) h
 delay_not n now again w old h = refl
 
+-- the expiry of a delay leaves it unset
 expired_so : (t : ThreadNo) (w : What) (old : Option Setting) → expires_delay t w ≡ true → expired_delay t w old ≡ None
 expired_so t (Expire (OfDelay u) from) old h = rw h refl
 expired_so t w old h = cc
 
+-- an event that isn't the expiry of a delay leaves its setting as it was
 expired_not : (t : ThreadNo) (w : What) (old : Option Setting) → expires_delay t w ≡ false → expired_delay t w old ≡ old
 expired_not t (Expire (OfDelay u) from) old h = rw h refl
 expired_not t w old h = refl
 
+-- an event that blocks in a delay isn't the expiry of one
 blocked_alone : (t : ThreadNo) (now : ℕ) (again : Option Again) (w : What) (due : ℕ) → blocked_due now again w ≡ Some due → expires_delay t w ≡ false
 blocked_alone t now again (Expire (OfDelay u) from) due h = cc
 blocked_alone t now again w due h = refl
@@ -252,6 +271,7 @@ delay_by s t e past b h k =
     else delay_setting s t past) k ∙ ap (λ (c : Bool). if c
     then blocked_after (length past) (time past) (stand_at s e.cpu past).again e.what (delay_setting s t past) else delay_setting s t past) h
 
+-- a delay that is set was set by the last event that blocked in it, and didn't expire since
 delay_forth : (s : Script) (t : ThreadNo) (x : Setting) (past : List Event) → delay_setting s t past ≡ Some x → IsDelaySet s t x past
 delay_forth s t x [] h = none_some x h
 delay_forth s t x (e ∷ past) h =
@@ -287,6 +307,7 @@ delay_forth s t x (e ∷ past) h =
         let a = ih (sym (delay_by s t e past false j i) ∙ h) in
         (a.0, inr a.1, (λ l. (λ m. no_bool (sym j ∙ m), i), a.2))
 
+-- a delay is set as the last event that blocked in it says, if it didn't expire since
 delay_back : (s : Script) (t : ThreadNo) (x : Setting) (past : List Event) → IsDelaySet s t x past → delay_setting s t past ≡ Some x
 delay_back s t x [] h = absurd h.1
 delay_back s t x (e ∷ past) h = go h.1 (λ a b. delay_back s t x past (h.0, a, b))
@@ -306,11 +327,13 @@ delay_back s t x (e ∷ past) h = go h.1 (λ a b. delay_back s t x past (h.0, a,
     go (inr a) ih =
         left_by (is_of_thread s t e) refl (h.2.0 (at_before (IsDelaySetBy s t x) h.0 past a)) ∙ ih a h.2.1
 
+-- a delay has a setting exactly where the thread's last delay that blocked gave it and it hasn't expired since
 pub delays_set_last : (s : Script) (t : ThreadNo) (x : Setting) (past : List Event) → (delay_setting s t past ≡ Some x) ↔ IsDelaySet s t x past
 delays_set_last s t x past = (λ h. delay_forth s t x past h, λ h. delay_back s t x past h)
 
 -- ---- the first due key
 
+-- a setting in a table is at a place below the table's length and is the function's there
 in_table : (n i : ℕ) (f : ℕ → Option Setting) (x : Setting) → setting_in (table n f) i ≡ Some x → (i < n) × (f i ≡ Some x)
 in_table n i f x h = go (nat_lt i n) refl
   where
@@ -321,6 +344,7 @@ in_table n i f x h = go (nat_lt i n) refl
         let m : length (table n f) ≤ i = let k = length-table_from 0 n f in omega (arith, k, l) in
         none_some x (sym (get_or_past (table n f) i None m) ∙ h)
 
+-- a key that has a setting in the table is one of the script's and is set so by its events
 key_forth : (s : Script) (past : List Event) (key : TimerKey) (x : Setting) → setting_at key (timers_at s past) ≡ Some x → IsKeySet s past key x
 key_forth s past (OfTimer t) x h =
     let a = in_table (length s.timers) t.0 (λ n. timer_setting (timer n) past) x h in (a.0, (timers_set_last t x past).0 a.1)
@@ -328,12 +352,14 @@ key_forth s past (OfDelay t) x h =
     let a = in_table (length s.threads) t.0 (λ n. delay_setting s (thread n) past) x h in
     (a.0, (delays_set_last s t x past).0 a.1)
 
+-- a key of the script that is set so by its events has that setting in the table
 key_back : (s : Script) (past : List Event) (key : TimerKey) (x : Setting) → IsKeySet s past key x → setting_at key (timers_at s past) ≡ Some x
 key_back s past (OfTimer t) x h =
     get_or-table (length s.timers) t.0 (λ n. timer_setting (timer n) past) None h.0 ∙ (timers_set_last t x past).1 h.1
 key_back s past (OfDelay t) x h =
     get_or-table (length s.threads) t.0 (λ n. delay_setting s (thread n) past) None h.0 ∙ (delays_set_last s t x past).1 h.1
 
+-- the first due key is the least, by due time and number, of the keys that are set and due, or none is due
 pub first_due_least : (s : Script) (past : List Event) → IsFirstDueKey s past (first_due (timers_at s past))
 first_due_least s past = go (first_due (timers_at s past)) (first_due_is_first (timers_at s past))
   where

@@ -62,17 +62,21 @@ use Rattle.nt_report.proofs.Hexadecimals.{hexadecimal_again}
 
 -- ---- one field
 
+-- reading one field takes it off a row and leaves the fields after it
 one_again : {A : Type 0} (read : List ℕ → Result A ScriptKind) (f : List ℕ) (x : A) (more : Row) → read f ≡ Ok x → one_field read (f ∷ more) ≡ Ok (x, more)
 one_again read f x more e = rw e refl
 
+-- the decimal of a 32 bit number is read as that event number
 pub event_again : (n : ℕ) → IsWord n → read_event (decimal n) ≡ Ok n
 event_again n h = number_again 4294967295 n (lit< tt) h
 
+-- the fields that tell the event used are read as its number, and the fields after them are left
 used_again : (n : ℕ) → IsWord n → (more : Row) → used (used_fields n ++ more) ≡ Ok (n, more)
 used_again n h more = rw (event_again n h) refl
 
 -- ---- words
 
+-- the word of a kind of event is read as that kind
 pub event_word_again : (w : EventWord) → read_event_word (event_text w) ≡ Ok w
 unfolding event_word
 event_word_again word.Call = refl
@@ -89,6 +93,7 @@ event_word_again word.Gone = refl
 event_word_again word.Free = refl
 event_word_again word.Rest = refl
 
+-- the text of a word that begins an activity is read as that word
 begun_word_again : (w : BegunWord) → read_begun_word (begun_text w) ≡ Ok w
 unfolding begun_word
 begun_word_again of_begin.Int = refl
@@ -98,6 +103,7 @@ begun_word_again (of_begin.Apc kind.Special) = refl
 begun_word_again (of_begin.Apc kind.Normal) = refl
 begun_word_again (of_begin.Apc kind.User) = refl
 
+-- the word of an APC kind is read as the beginning of an APC of that kind
 kind_again : (k : ApcKind) → read_begun_word (kind_word k) ≡ Ok (of_begin.Apc k)
 unfolding begun_word
 kind_again kind.Special = refl
@@ -106,6 +112,7 @@ kind_again kind.User = refl
 
 -- ---- replies
 
+-- the decimals of a refusal's number are read as the refusal
 refusal_again : (r : Refusal) → read_refusal (decimal (refusal_number r)) ≡ Ok r
 unfolding refusal_of digits
 refusal_again NotThread = refl
@@ -120,9 +127,11 @@ refusal_again LockHeld = refl
 refusal_again HeldHere = refl
 refusal_again NotLast = refl
 
+-- a row that begins with an expected word is read up to the fields after it
 name_again : (f : List ℕ) (more : Row) → behind_word f (f ∷ more) ≡ Ok more
 name_again f more = rw ((bytes_eq-Decides f f).1 refl) refl
 
+-- the fields of a reply in range are read as the reply, and the fields after them are left
 pub replied_again : (r : Reply) → ReplyInRange r → (more : Row) → replied (reply_fields r ++ more) ≡ Ok (r, more)
 unfolding reply_word
 replied_again Done h more = refl
@@ -133,18 +142,21 @@ replied_again Blocked h more = refl
 replied_again Spin h more = refl
 replied_again (Refused r) h more = rw (refusal_again r, name_again (refusal_name r) more) refl
 
+-- the fields of a status in range are read as the status, with nothing left
 pub status_again : (s : Option ℕ) → StatusInRange s → status (status_row s) ≡ Ok (s, [])
 status_again None h = refl
 status_again (Some x) h = rw (hexadecimal_again x h) refl
 
 -- ---- commands
 
+-- a command of one argument is read alike with further fields after it
 more1 : {A C : Type 0} (f : List ℕ → Result A ScriptKind) (make : A → C) (args more : Row) → length args ≡ 1 → read1 f make (args ++ more)
     ≡ read1 f make args
 more1 f make [] more e = absurd (omega (arith, e))
 more1 f make (a ∷ []) more e = refl
 more1 f make (a ∷ b ∷ args) more e = absurd (omega (arith, e))
 
+-- a command of two arguments is read alike with further fields after them
 more2 : {A B C : Type 0} (f : List ℕ → Result A ScriptKind) (g : List ℕ → Result B ScriptKind) (make : A → B → C) (args more : Row) → length args ≡ 2 →
     read2 f g make (args ++ more) ≡ read2 f g make args
 more2 f g make [] more e = absurd (omega (arith, e))
@@ -152,6 +164,7 @@ more2 f g make (a ∷ []) more e = absurd (omega (arith, e))
 more2 f g make (a ∷ b ∷ []) more e = refl
 more2 f g make (a ∷ b ∷ c ∷ args) more e = absurd (omega (arith, e))
 
+-- a command of three arguments is read alike with further fields after them
 more3 : {A B D C : Type 0} (f : List ℕ → Result A ScriptKind) (g : List ℕ → Result B ScriptKind) (h : List ℕ → Result D ScriptKind) (make : A → B → D → C)
     (args more : Row) → length args ≡ 3 → read3 f g h make (args ++ more) ≡ read3 f g h make args
 more3 f g h make [] more e = absurd (omega (arith, e))
@@ -160,6 +173,7 @@ more3 f g h make (a ∷ b ∷ []) more e = absurd (omega (arith, e))
 more3 f g h make (a ∷ b ∷ c ∷ []) more e = refl
 more3 f g h make (a ∷ b ∷ c ∷ d ∷ args) more e = absurd (omega (arith, e))
 
+-- a command with as many arguments as its verb has is read alike with further fields after them
 command_more : (names : NameLists) (cpus : ℕ) (v : Verb) (args more : Row) → length args ≡ verb_arity v → command_of names cpus v (args ++ more)
     ≡ command_of names cpus v args
 command_more names cpus verb.Raise args more e = more1 read_level _ args more e
@@ -189,15 +203,18 @@ command_more names cpus verb.Acquire args more e = more1 (read_lock names) _ arg
 command_more names cpus verb.Unlock args more e = more1 (read_lock names) _ args more e
 command_more names cpus verb.Note args more e = more1 (read_number 4294967295) _ args more e
 
+-- leaving out as many fields as the arguments are leaves the fields after them
 behind_more : (n : ℕ) (args more : Row) → length args ≡ n → behind n (args ++ more) ≡ more
 behind_more zero [] more e = refl
 behind_more zero (a ∷ args) more e = absurd (omega (arith, e))
 behind_more (suc n) [] more e = absurd (omega (arith, e))
 behind_more (suc n) (a ∷ args) more e = behind_more n args more (omega (arith, e))
 
+-- the keyword of a verb that a version has is read as the verb
 verb_again : (version : ℕ) (v : Verb) → since (keyword.Call v) ≤ version → read_verb version (text_of (keyword.Call v)) ≡ Ok v
 verb_again version v le = rw (keyword_again version (keyword.Call v) le) refl
 
+-- the row of a command that fits and is in range is read as the command, and the fields after it are left
 called_again : (input : Input) → Known input → (c : Command) → command_fits input.script c ≡ true → HasRange c → (more : Row) →
     command input (command_row input.names c ++ more) ≡ Ok (c, more)
 called_again input k c h r more =
@@ -224,6 +241,7 @@ kind_there [] i lt = absurd (omega (arith, lt))
 kind_there (a ∷ s) zero lt = (a, refl)
 kind_there (a ∷ s) (suc i) lt = kind_there s i (omega (arith, lt))
 
+-- the row of an activity that begins is read as the activity, and the fields after it are left
 begun_again : (input : Input) → Known input → (b : Begun) → begun_fits input.script b ≡ true → BegunInRange b → (more : Row) →
     begun input.names (begun_row input b ++ more) ≡ Ok (b, more)
 begun_again input k (of_begun.Int l) h r more = rw (begun_word_again of_begin.Int, number_again 15 l (lit< tt) r) refl
@@ -233,19 +251,23 @@ begun_again input k (of_begun.Apc a) h r more =
     let there = kind_there input.script.apcs a.0 (ltb-true a.0 (length input.script.apcs) h) in
     rw (there.1, kind_again there.0.kind, k.are.apcs a (apc_at input k a h)) refl
 
+-- the row of a timer key that fits is read as the key, and the fields after it are left
 key_again : (input : Input) → Known input → (t : TimerKey) → key_fits input.script t ≡ true → (more : Row) → expired input.names (key_row input.names t ++ more)
     ≡ Ok (t, more)
 key_again input k (key.Timer t) h more = rw (k.are.timers t (timer_at input k t h)) refl
 key_again input k (key.Delay t) h more = rw (k.are.threads t (thread_at input k t h)) refl
 
+-- the name of a lock of the script is read as that lock
 pub lock_again : (input : Input) → Known input → (l : LockNo) → has_lock input.script l ≡ true → read_lock input.names (show_lock input.names l) ≡ Ok l
 lock_again input k l h = k.are.locks l (lock_at input k l h)
 
 -- ---- what an event did
 
+-- the fields that tell the event used are read as its number, where they are the last
 used_last : (n : ℕ) → IsWord n → used (used_fields n) ≡ Ok (n, [])
 used_last n h = used_again n h []
 
+-- the fields of a reply in range are read as the reply, where they are the last
 replied_last : (r : Reply) → ReplyInRange r → replied (reply_fields r) ≡ Ok (r, [])
 replied_last Done h = replied_again Done h []
 replied_last Yes h = replied_again Yes h []
@@ -255,6 +277,7 @@ replied_last Blocked h = replied_again Blocked h []
 replied_last Spin h = replied_again Spin h []
 replied_last (Refused r) h = replied_again (Refused r) h []
 
+-- the row of an action that is no look is read as the action, if it fits the script and is in range
 what_again : (input : Input) → Known input → (ver : ℕ) (w : What) → what_fits input.script w ≡ true → WhatInRange ver w → is_look w ≡ false →
     what input (what_row input w) ≡ Ok (w, [])
 what_again input k ver (Look rises) h r l = absurd cc
@@ -276,6 +299,7 @@ what_again input k ver Rest h r l = rw (event_word_again word.Rest) refl
 
 -- ---- the whole line
 
+-- a name is never the dash
 no_name_is_dash : (f : List ℕ) → is_name f ≡ true → bytes_eq f dash ≡ false
 no_name_is_dash f h = go (bytes_eq f dash) refl
   where
@@ -283,6 +307,7 @@ no_name_is_dash f h = go (bytes_eq f dash) refl
     go true e = absurd (no_dash f h (sym ((bytes_eq-Decides f dash).0 e)))
     go false e = e
 
+-- the shown running thread, or its absence, is read as it was
 running_again : (input : Input) → Known input → (t : Option ThreadNo) → where_given (has_thread input.script) t ≡ true →
     read_running input.names (show_running input.names t) ≡ Ok t
 running_again input k None h = refl
@@ -294,6 +319,7 @@ running_again input k (Some t) h =
 abbrev pub line : ℕ → Event → EventLine
 line n e = record { number = n; event = e }
 
+-- the number and the fields of a plain event that is no look are read as the line of that event
 pub event_line_again : (input : Input) → Known input → (n : ℕ) (e : Event) → IsWord n → EventIsPlain input e → is_look e.what ≡ false →
     event_line input (decimal n) (event_fields input e) ≡ Ok (line n e)
 event_line_again input k n e w h l =

@@ -49,6 +49,7 @@ before place lines = record { place = place; lines = lines; schedule = schedule_
 
 -- ---- one line
 
+-- no line of the front of a report may stand inside the schedule
 not_inside : (o : Option LineWord) (w : LineWord) → word_at InSchedule o ≡ Ok w → ⊥
 not_inside None w e = absurd cc
 not_inside (Some word.Report) w e = absurd cc
@@ -58,6 +59,7 @@ not_inside (Some word.Spins) w e = absurd cc
 not_inside (Some word.Waits) w e = absurd cc
 not_inside (Some word.Schedule) w e = absurd cc
 
+-- a line whose first word may stand at a place is read as one of the front of the report
 front_is : (input : Input) (p : ReportPlace) (w : Walked) (l : TextLine) (o : Option LineWord) (wd : LineWord) → word_at p o ≡ Ok wd → step_at p input w l
     ≡ front_step input w l
 front_is input Start w l o wd e = refl
@@ -72,6 +74,7 @@ step_again : (input : Input) (w : Walked) (row : Row) (wd : LineWord) (new : Wal
     act input w wd row (line_of row) ≡ Ok new → line_step input w (line_of row) ≡ Ok new
 step_again input w row wd new clean e f = front_is input w.place w (line_of row) (line_word (first row)) wd e ∙ rw (row_again row clean, e, f) refl
 
+-- walking over a line and further lines is walking over these from where the line leads
 on : (input : Input) (w new : Walked) (n : ℕ) (l : TextLine) (more : List TextLine) → line_step input w l ≡ Ok new → walk input w n (l ∷ more)
     ≡ walk input new (n + 1) more
 on input w new n l more e = rw e refl
@@ -83,16 +86,20 @@ unfoldable pub event_lines : ℕ → List Event → List EventLine
 event_lines n [] = []
 event_lines n (e ∷ es) = if is_look e.what then event_lines (n + 1) es else line n e ∷ event_lines (n + 1) es
 
+-- decimal digits, read on from zero, are a model of numerals
 own : IsNumeralModel (λ ds. all_ascii_digits ds ≡ true) (read_on 0)
 own = numerals_by_fold _ (search rules) read_on (search rules)
 
+-- a nonempty list of decimal digits is taken as the number of an event's line
 numbered : (ds : List ℕ) → all_ascii_digits ds ≡ true → 0 < length ds → is_numbered ds ≡ true
 numbered [] h l = absurd (omega (arith, l))
 numbered (c ∷ cs) h l = (and_parts (is_ascii_digit c) (all_ascii_digits cs) h).0
 
+-- a line that begins with the decimals of a 64-bit number is the line of an event
 number_word : (n : ℕ) → n < 2 ^ 64 → line_word (decimal n) ≡ Some word.Event
 number_word n lt = rw (numbered (decimal n) (digits_decimal own n lt) (decimal_nonempty n lt)) refl
 
+-- the line of a plain event that is no look is read as the event, after the event lines read so far
 event_step_again : (input : Input) → Known input → (n : ℕ) (e : Event) (ls : List EventLine) → n ≤ 160000 → length ls < 160000 → EventIsPlain input e →
     is_look e.what ≡ false → line_step input (before InEvents ls) (line_of (event_row input n e)) ≡ Ok (before InEvents (ls ++ line n e ∷ []))
 event_step_again input k n e ls few room h l =
@@ -104,6 +111,7 @@ event_step_again input k n e ls few room h l =
 abbrev Behind : Input → Walked → ℕ → List TextLine → Walked → List TextLine → Type 0
 Behind input w n ls new more = (m : ℕ) × (walk input w n ls ≡ walk input new m more)
 
+-- the lines of plain events are read as the events, after the event lines read so far
 events_run : (input : Input) → Known input → (n : ℕ) (es : List Event) (ls : List EventLine) (m : ℕ) (tail : List TextLine) → n + length es ≤ 160000 →
     length ls ≤ n → AllByRecursion (EventIsPlain input) es →
     Behind input (before InEvents ls) m (map line_of (event_rows input n es) ++ tail) (before InEvents (ls ++ event_lines n es)) tail
@@ -137,6 +145,7 @@ events_run input k n (e ∷ es) ls m tail few room h =
 abbrev MayBe : LineWord → ReportPlace → Type 0
 MayBe w p = word_at p (Some w) ≡ Ok w
 
+-- where a line of a cut processor may stand, a line of a spinning one may
 cut_then_spin : (p : ReportPlace) → MayBe word.Cut p → MayBe word.Spins p
 cut_then_spin Start e = absurd cc
 cut_then_spin InEvents e = refl
@@ -145,6 +154,7 @@ cut_then_spin InSpins e = absurd cc
 cut_then_spin InWaits e = absurd cc
 cut_then_spin InSchedule e = absurd cc
 
+-- where a line of a spinning processor may stand, a line of a waiting insert may
 spin_then_wait : (p : ReportPlace) → MayBe word.Spins p → MayBe word.Waits p
 spin_then_wait Start e = absurd cc
 spin_then_wait InEvents e = refl
@@ -153,6 +163,7 @@ spin_then_wait InSpins e = refl
 spin_then_wait InWaits e = absurd cc
 spin_then_wait InSchedule e = absurd cc
 
+-- where a line of a waiting insert may stand, the first line of the schedule may
 wait_then_schedule : (p : ReportPlace) → MayBe word.Waits p → MayBe word.Schedule p
 wait_then_schedule Start e = absurd cc
 wait_then_schedule InEvents e = refl
@@ -165,6 +176,7 @@ wait_then_schedule InSchedule e = absurd cc
 abbrev BehindAt : Input → LineWord → ReportPlace → List EventLine → ℕ → List TextLine → List TextLine → Type 0
 BehindAt input wd p ls n lines more = (q : ReportPlace) × MayBe wd q × Behind input (before p ls) n lines (before q ls) more
 
+-- the line of a cut processor is read where it may stand and leaves the event lines
 cut_step_again : (input : Input) → Known input → (p : ReportPlace) (ls : List EventLine) (c : ℕ) → MayBe word.Cut p → c < input.script.cpus →
     line_step input (before p ls) (line_of (cut_row c)) ≡ Ok (before InCuts ls)
 cut_step_again input k p ls c may lt =
@@ -173,6 +185,7 @@ cut_step_again input k p ls c may lt =
     cpu_again input.script.cpus (record { 0 = c }) few lt in
     step_again input (before p ls) (cut_row c) word.Cut (before InCuts ls) (refl, (decimal_field c (omega (arith, lt, few)), tt)) may (rw processor refl)
 
+-- the lines of the cut processors are read where they may stand and leave the event lines
 cuts_run : (input : Input) → Known input → (h : History) (c count : ℕ) (p : ReportPlace) (ls : List EventLine) (n : ℕ) (tail : List TextLine) →
     c + count ≤ input.script.cpus → MayBe word.Cut p → BehindAt input word.Cut p ls n (map line_of (cut_rows h c count) ++ tail) tail
 cuts_run input k h c zero p ls n tail few may = (p, may, (n, refl))
@@ -188,6 +201,7 @@ cuts_run input k h c (suc count) p ls n tail few may =
         let step = cut_step_again input k p ls c may (omega (arith, few)) in
         (r.0, r.1, (r.2.0, on input (before p ls) (before InCuts ls) n (line_of (cut_row c)) _ step ∙ r.2.1))
 
+-- the line of a spinning processor is read where it may stand and leaves the event lines
 spin_step_again : (input : Input) → Known input → (p : ReportPlace) (ls : List EventLine) (c : ℕ) (x : Spun) → MayBe word.Spins p → c < input.script.cpus →
     IsWord x.number → has_lock input.script x.lock ≡ true →
     line_step input (before p ls) (line_of (spin_row input.names c x)) ≡ Ok (before InSpins ls)
@@ -199,6 +213,7 @@ spin_step_again input k p ls c x may lt n h =
     (spin_clean input k c x (omega (arith, lt, few)) (omega (arith, n)) h) may
     (rw (processor, lock_again input k x.lock h, event_again x.number n) refl)
 
+-- the lines of the spinning processors are read where they may stand and leave the event lines
 spins_run : (input : Input) → Known input → (h : History) → length h.events ≤ 160000 → events_fit input.script h.events ≡ true →
     (c count : ℕ) (p : ReportPlace) (ls : List EventLine) (n : ℕ) (tail : List TextLine) → c + count ≤ input.script.cpus → MayBe word.Spins p →
     BehindAt input word.Spins p ls n (map line_of (spin_rows input.names h c count) ++ tail) tail
@@ -221,6 +236,7 @@ spins_run input k h short fit c (suc count) p ls n tail few may =
 abbrev pub WaitFits : Input → Inserted → Type 0
 WaitFits input i = (i.number ≤ 4294967295) × (thing_fits input.script i.thing ≡ true) × IsRow (wait_row input.names i)
 
+-- the line of a waiting insert is read where it may stand and leaves the event lines
 wait_step_again : (input : Input) → Known input → (p : ReportPlace) (ls : List EventLine) (i : Inserted) → MayBe word.Waits p → WaitFits input i →
     line_step input (before p ls) (line_of (wait_row input.names i)) ≡ Ok (before InWaits ls)
 wait_step_again input k p ls i may h =
@@ -232,6 +248,7 @@ wait_step_again input k p ls i may h =
     go (DpcThing d) f = rw (event_again i.number h.0, k.are.dpcs d (dpc_at input k d f)) refl
     go (ApcThing a) f = rw (event_again i.number h.0, k.are.apcs a (apc_at input k a f)) refl
 
+-- the lines of the waiting inserts are read where they may stand and leave the event lines
 waits_run : (input : Input) → Known input → (xs : List Inserted) (p : ReportPlace) (ls : List EventLine) (n : ℕ) (tail : List TextLine) →
     AllByRecursion (WaitFits input) xs → MayBe word.Waits p → BehindAt input word.Waits p ls n (map line_of (map (wait_row input.names) xs) ++ tail) tail
 waits_run input k [] p ls n tail h may = (p, may, (n, refl))
@@ -245,6 +262,7 @@ waits_run input k (i ∷ xs) p ls n tail h may =
 abbrev pub parts : List EventLine → Schedule → Parts
 parts lines schedule = record { lines = lines; schedule = schedule }
 
+-- inside the schedule a line is read as one of the schedule
 at_inside : (input : Input) (p : ReportPlace) (w : Walked) (l : TextLine) → in_schedule p ≡ true → step_at p input w l ≡ schedule_step input w l
 at_inside input InSchedule w l e = refl
 at_inside input Start w l e = absurd cc
@@ -253,6 +271,7 @@ at_inside input InCuts w l e = absurd cc
 at_inside input InSpins w l e = absurd cc
 at_inside input InWaits w l e = absurd cc
 
+-- inside the schedule the lines are read as the schedule that they give, with the event lines of before
 inside_again : (input : Input) (w : Walked) (n : ℕ) (ls : List TextLine) (s : Schedule) → in_schedule w.place ≡ true →
     schedule_walk input.script.cpus input w.schedule n ls ≡ Ok s → walk input w n ls ≡ Ok (parts w.lines s)
 inside_again input w n [] s h e = rw e refl
@@ -269,6 +288,7 @@ inside_again input w n (l ∷ more) s h e =
         let step : line_step input w l ≡ Ok (with_schedule w sw) = at_inside input w.place w l h ∙ rw is refl in
         on input w (with_schedule w sw) n l more step ∙ more2 sw e
 
+-- from its first line on, a schedule after the event lines is read as that schedule
 schedule_again : (input : Input) (p : ReportPlace) (ls : List EventLine) (n : ℕ) (turns : ℕ) (more : List TextLine) (s : Schedule) → MayBe word.Schedule p →
     IsRow (limit_row turns) → schedule_walk input.script.cpus input schedule_start n (line_of (limit_row turns) ∷ more) ≡ Ok s →
     walk input (before p ls) n (line_of (limit_row turns) ∷ more) ≡ Ok (parts ls s)
@@ -286,12 +306,14 @@ schedule_again input p ls n turns more s may clean e =
 
 -- ---- all lines
 
+-- the first line of a report leads to the place of the event lines
 first_again : (input : Input) (n : ℕ) (more : List TextLine) → walk input start n (line_of (codes "report" ∷ []) ∷ more)
     ≡ walk input (before InEvents []) (n + 1) more
 first_again input n more =
     on input start (before InEvents []) n (line_of (codes "report" ∷ [])) more
     (step_again input start (codes "report" ∷ []) word.Report (before InEvents []) (refl, tt) refl refl)
 
+-- the lines of a report are read as the lines of its events and its schedule
 pub lines_read : (input : Input) → Known input → (h : History) (xs : List Inserted) (s : Schedule) (n : ℕ) → length h.events ≤ 160000 →
     AllByRecursion (EventIsPlain input) h.events → AllByRecursion (WaitFits input) xs → IsRow (limit_row s.turns) →
     ((m : ℕ) → schedule_walk input.script.cpus input schedule_start m (map line_of (schedule_rows input.names s)) ≡ Ok s) →

@@ -39,6 +39,7 @@ done x = Ok x
 
 -- ---- the events
 
+-- a number equals itself by the test of equality
 same_number : (n : ℕ) → (n == n) ≡ true
 same_number n = go (n == n) refl
   where
@@ -46,14 +47,17 @@ same_number n = go (n == n) refl
     go true e = e
     go false e = absurd (eqb-false n n e refl)
 
+-- a list with one element put at its end is one longer
 one_longer : (xs : List Event) (x : Event) → length (xs ++ x ∷ []) ≡ length xs + 1
 one_longer [] x = refl
 one_longer (y ∷ xs) x = let more = one_longer xs x in omega (arith, more)
 
+-- joining an empty list at the end leaves a list of events as it is
 nothing_behind : (xs : List Event) → xs ++ [] ≡ xs
 nothing_behind [] = refl
 nothing_behind (x ∷ xs) = ap (λ (ys : List Event). x ∷ ys) (nothing_behind xs)
 
+-- the turns and the lines of bare events give the events after those of before
 events_again : (past es : List Event) (at : ℕ) → AllByRecursion (λ e. LookIsBare e e.what) es →
     events_of past (map turn_of es) (event_lines (length past) es) at ≡ Ok (past ++ es)
 unfolding event_lines
@@ -73,6 +77,7 @@ events_again past (e ∷ es) at h =
 
 -- ---- the inserts that wait
 
+-- each insert of a plain history of at most 160000 events fits and can be written as waiting
 few_waits : (input : Input) → Known input → (past : List Event) → length past ≤ 160000 → AllByRecursion (EventIsPlain input) past →
     AllByRecursion (WaitFits input) (inserts past)
 few_waits input k [] few h = tt
@@ -90,17 +95,20 @@ few_waits input k (e ∷ past) few h =
 
 -- ---- the schedule
 
+-- the processor of an action's turn is the processor that acts
 cpu_of : (p : CpuNo) (w : What) → cpu_at (turn_at p w) ≡ p
 cpu_of p (Look r) = refl
 cpu_of p (Switch t s) = refl
 cpu_of p w = refl
 
+-- the turns of plain events are of processors of the script
 are_below : (input : Input) (es : List Event) → AllByRecursion (EventIsPlain input) es → AreBelow input.script.cpus (map turn_of es)
 are_below input [] h = tt
 are_below input (e ∷ es) h =
     let lt : e.cpu.0 < input.script.cpus = ltb-true e.cpu.0 input.script.cpus (event_parts input.script e h.0.0).cpu in
     (subst (λ (p : CpuNo). p.0 < input.script.cpus) (sym (cpu_of e.cpu e.what)) lt, are_below input es h.1)
 
+-- looks among plain events are bare
 all_bare : (input : Input) (es : List Event) → AllByRecursion (EventIsPlain input) es → AllByRecursion (λ e. LookIsBare e e.what) es
 all_bare input [] h = tt
 all_bare input (e ∷ es) h = (h.0.1.2, all_bare input es h.1)
@@ -115,6 +123,7 @@ five a b c d e =
     (map-append line_of b (c ++ (d ++ e)) ∙ ap (λ (x : List TextLine). map line_of b ++ x)
     (map-append line_of c (d ++ e) ∙ ap (λ (x : List TextLine). map line_of c ++ x) (map-append line_of d e)))
 
+-- the lines of a report are its first line and those of events, cuts, spins, waits and schedule
 lines_of_report : (bytes : List ℕ) (input : Input) (h : History) → IsReportOf bytes input h → lines bytes ≡ line_of (codes "report" ∷ [])
     ∷ (map line_of (event_rows input 0 h.events) ++ (map line_of (cut_rows h 0 input.script.cpus)
     ++ (map line_of (spin_rows input.names h 0 input.script.cpus)
@@ -126,6 +135,7 @@ lines_of_report bytes input h r =
     (wait_rows input.names (reverse h.events))
     (schedule_rows input.names (schedule_of h)))
 
+-- walking over the lines of a report gives its event lines and its schedule
 walk_is : (bytes : List ℕ) (input : Input) (h : History) (n : ℕ) → IsReportOf bytes input h → walk input start n (lines bytes)
     ≡ Ok (parts (event_lines 0 h.events) (schedule_of h))
 walk_is bytes input h n r =
@@ -141,6 +151,7 @@ walk_is bytes input h n r =
     ∙ lines_read input k h (waiting_inserts past) (schedule_of h) n (omega (arith, few)) r.plain.events waits clean
     (λ m. walk_again input.script.cpus m input (schedule_of h) r.sound (schedule_plain input k h r.plain) (are_below input h.events r.plain.events))
 
+-- the report of a history is read as that history
 pub report_is_read : (bytes : List ℕ) (input : Input) (h : History) (n : ℕ) → IsReportOf bytes input h → reading input n bytes ≡ Ok h
 report_is_read bytes input h n r =
     let events : events_of [] (map turn_of h.events) (event_lines 0 h.events) (n + 1) ≡ Ok h.events =
@@ -149,6 +160,7 @@ report_is_read bytes input h n r =
     let same : bytes_eq (report_text input h) bytes ≡ true = (bytes_eq-Decides (report_text input h) bytes).1 (sym r.text) in
     rw (walk_is bytes input h n r, history, same) refl
 
+-- the reading of a history's report, if memory is found, gives that history
 pub is_only : (bytes : List ℕ) (input : Input) (h : History) (n : ℕ) (r : Result History ScriptRefusal) → GivesRead r (reading input n bytes) →
     IsReportOf bytes input h → GivesRead r (Ok h)
 is_only bytes input h n r e t = subst (GivesRead r) (report_is_read bytes input h n t) e

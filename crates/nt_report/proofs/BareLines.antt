@@ -26,6 +26,7 @@ use Rattle.nt_report.proofs.Steps.{end_ok, made, ok, through}
 abbrev IsBare : What × Row → Type 0
 IsBare y = HasValues no_rises y.0
 
+-- an action that is read after a known first word is no look with values
 what_of_bare : (input : Input) (w : EventWord) (row : Row) (y : What × Row) → what_of input w row ≡ Ok y → IsBare y
 what_of_bare input word.Call row y e =
     through IsBare (one_field read_event row) (λ (f : ℕ × Row). command input f.1 >>= λ c. replied c.1 >>= λ r. ok (Call f.0 c.0 r.0, r.1)) y e
@@ -71,6 +72,7 @@ what_of_bare input word.Free row y e =
     (λ l is' then'. made IsBare (Free f.0 l.0, l.1) y then' tt))
 what_of_bare input word.Rest row y e = made IsBare (Rest, row) y e tt
 
+-- an action that is read from a row is no look with values
 what_bare : (input : Input) (row : Row) (y : What × Row) → what input row ≡ Ok y → IsBare y
 what_bare input row y e =
     through IsBare (one_field read_event_word row) (λ (w : EventWord × Row). what_of input w.0 w.1) y e
@@ -79,9 +81,11 @@ what_bare input row y e =
 abbrev IsBareLine : EventLine → Type 0
 IsBareLine line = HasValues no_rises line.event.what
 
+-- the event line of a number, a processor, a thread, a level and an action
 line : ℕ → CpuNo → Option ThreadNo → ℕ → What → EventLine
 line n p t l w = record { number = n; event = record { cpu = p; thread = t; level = l; what = w } }
 
+-- if the event that is read from a line is a look, it has no values
 pub line_bare : (input : Input) (number : List ℕ) (row : Row) (y : EventLine) → event_line input number row ≡ Ok y →
     HasValues no_rises y.event.what
 unfolding line

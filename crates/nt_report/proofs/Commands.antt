@@ -21,15 +21,18 @@ use Rattle.nt_report.proofs.Steps.{ok, through}
 abbrev pub Fronts : {C : Type 0} → (Row → Result C ScriptKind) → ℕ → Row → C → Type 0
 Fronts read n args c = (read (take n args) ≡ Ok c) × (length (take n args) ≡ n)
 
+-- a command without arguments is read from no field, whatever follows
 front0 : {C : Type 0} (x c : C) (args : Row) → ok x ≡ Ok c → Fronts (λ args. ok x) 0 args c
 front0 x c [] e = (e, refl)
 front0 x c (a ∷ args) e = (e, refl)
 
+-- a command of one argument is read from the first field, whatever follows
 front1 : {A C : Type 0} (f : List ℕ → Result A ScriptKind) (make : A → C) (args : Row) (c : C) → read1 f make args ≡ Ok c → Fronts (read1 f make) 1 args c
 front1 f make [] c e = absurd cc
 front1 f make (a ∷ []) c e = (e, refl)
 front1 f make (a ∷ b ∷ args) c e = (e, refl)
 
+-- a command of two arguments is read from the first two fields, whatever follows
 front2 : {A B C : Type 0} (f : List ℕ → Result A ScriptKind) (g : List ℕ → Result B ScriptKind) (make : A → B → C) (args : Row) (c : C) →
     read2 f g make args ≡ Ok c → Fronts (read2 f g make) 2 args c
 front2 f g make [] c e = absurd cc
@@ -38,6 +41,7 @@ front2 {A = A} {B = B} {C = C} f g make (a ∷ []) c e =
 front2 f g make (a ∷ b ∷ []) c e = (e, refl)
 front2 f g make (a ∷ b ∷ d ∷ args) c e = (e, refl)
 
+-- a command of three arguments is read from the first three fields, whatever follows
 front3 : {A B D C : Type 0} (f : List ℕ → Result A ScriptKind) (g : List ℕ → Result B ScriptKind) (h : List ℕ → Result D ScriptKind) (make : A → B → D → C)
     (args : Row) (c : C) → read3 f g h make args ≡ Ok c → Fronts (read3 f g h make) 3 args c
 front3 f g h make [] c e = absurd cc
@@ -51,6 +55,7 @@ front3 {C = C} f g h make (a ∷ b ∷ []) c e =
 front3 f g h make (a ∷ b ∷ d ∷ []) c e = (e, refl)
 front3 f g h make (a ∷ b ∷ d ∷ i ∷ args) c e = (e, refl)
 
+-- a command is read from just as many fields at the front as its verb has arguments
 pub command_front : (names : NameLists) (cpus : ℕ) (v : Verb) (args : Row) (c : Command) → command_of names cpus v args ≡ Ok c →
     Fronts (command_of names cpus v) (verb_arity v) args c
 command_front names cpus verb.Raise args c e = front1 read_level cmd.Raise args c e

@@ -45,14 +45,17 @@ reading_is_report input sound n bytes h e = go (walk input start n (lines bytes)
     go (Err bad) is e = not_ok bad h e
     go (Ok parts) is e = second parts is (history_of parts n) refl e
 
+-- a history that is read from bytes is one of which the bytes are the report
 pub is_found : (input : Input) → IsSound input → (n : ℕ) (bytes : List ℕ) (r : Result History ScriptRefusal) → GivesRead r (reading input n bytes) →
     IfOk r (λ h. IsReportOf bytes input h)
 is_found input sound n bytes (Ok h) e = reading_is_report input sound n bytes h e
 is_found input sound n bytes (Err x) e = tt
 
+-- the events of a history that has a report fit the script
 pub report_fits : (bytes : List ℕ) (input : Input) (h : History) → IsReportOf bytes input h → events_fit input.script h.events ≡ true
 report_fits bytes input h r = plain_fits input h.events r.plain.events
 
+-- the events of a history that is read fit the script
 pub is_fit : (input : Input) → IsSound input → (n : ℕ) (bytes : List ℕ) (r : Result History ScriptRefusal) → GivesRead r (reading input n bytes) →
     IfOk r (λ h. events_fit input.script h.events ≡ true)
 is_fit input sound n bytes (Ok h) e = report_fits bytes input h (reading_is_report input sound n bytes h e)

@@ -12,12 +12,14 @@ digit_step : (c m v : ℕ) (more : List ℕ) → is_hexadecimal_digit c ≡ true
     hexadecimal_after m (c ∷ more) ≡ hexadecimal_after (16 * m + v) more
 digit_step c m v more h e le = rw (h, le-leb m 268435455 le, e) refl
 
+-- the glyph of a digit below ten is a hexadecimal digit with that value
 low_digit : (d : ℕ) → d < 10 → (is_hexadecimal_digit (48 + d) ≡ true) × (hexadecimal_value (48 + d) ≡ d)
 low_digit d lt =
     let digit : is_ascii_digit (48 + d) ≡ true =
     and_from (nat_le 48 (48 + d)) (nat_le (48 + d) 57) (le-leb 48 (48 + d) (omega arith)) (le-leb (48 + d) 57 (omega (arith, lt))) in
     (rw digit refl, rw digit (omega arith))
 
+-- the glyph of a digit from ten to fifteen is a hexadecimal digit with that value
 high_digit : (d : ℕ) → 10 ≤ d → d < 16 → (is_hexadecimal_digit (87 + d) ≡ true) × (hexadecimal_value (87 + d) ≡ d)
 high_digit d le lt =
     let digit : is_ascii_digit (87 + d) ≡ false = rw (le-leb 48 (87 + d) (omega arith), lt-leb (87 + d) 57 (omega (arith, le))) refl in
@@ -78,6 +80,7 @@ pub record Begins (ds : List ℕ) : Type 0 where
   pub is : ds ≡ head ∷ tail
   pub above : 48 < head
 
+-- the glyph of a digit above zero is above the glyph of zero
 glyph_above : (d : ℕ) → 0 < d → 48 < digit_glyph false d
 glyph_above d lt = go (nat_lt d 10)
   where
@@ -85,6 +88,7 @@ glyph_above d lt = go (nat_lt d 10)
     go true = omega (arith, lt)
     go false = omega arith
 
+-- the hexadecimal digits of a number above zero do not begin with a zero
 onto_begins : (k n : ℕ) (more : List ℕ) → n ≤ most k → 0 < n → Begins (digits_onto (suc k) 16 false n more)
 onto_begins zero n more le pos =
     let all : 16 * (n / 16) + n % 16 ≡ n = div-add-mod n 16 in
@@ -106,9 +110,11 @@ onto_begins (suc k) n more le pos = go (onto_begins k (n / 16) (digit_glyph fals
         positive zero h = absurd (h refl)
         positive (suc a) h = omega arith
 
+-- digits that do not begin with a zero are read as the number that they make
 plain : (ds : List ℕ) → Begins ds → hexadecimal_of ds ≡ hexadecimal_after 0 ds
 plain ds b = rw (b.is, ne_eqb b.head 48 (λ e. let h = b.above in omega (arith, e, h))) refl
 
+-- a number of 32 bits that is written in hexadecimal is read as that number
 pub hexadecimal_again : (n : ℕ) → n ≤ 4294967295 → read_hexadecimal (digits 16 false n) ≡ Ok n
 unfolding digits
 hexadecimal_again zero le = refl

@@ -49,21 +49,26 @@ use Rattle.nt_report.proofs.PlainFields.{event_word, has_it, processor_fits, rep
 
 -- ---- things
 
+-- a DPC that is read from a field is one of the script
 dpc_fits : (input : Input) → Known input → (row : Row) (y : DpcNo × Row) → one_field (read_dpc input.names) row ≡ Ok y → has_dpc input.script y.0 ≡ true
 dpc_fits input k row y e = has_it y.0.0 (length input.names.dpcs) (length input.script.dpcs) k.counts.dpcs (one_fits (dpc_takes input.names k.fit.few) row y e)
 
+-- a timer that is read from a field is one of the script
 timer_fits : (input : Input) → Known input → (row : Row) (y : TimerNo × Row) → one_field (read_timer input.names) row ≡ Ok y → has_timer input.script y.0 ≡ true
 timer_fits input k row y e =
     has_it y.0.0 (length input.names.timers) (length input.script.timers) k.counts.timers (one_fits (timer_takes input.names k.fit.few) row y e)
 
+-- a thread that is read from a field is one of the script
 thread_fits : (input : Input) → Known input → (row : Row) (y : ThreadNo × Row) → one_field (read_thread input.names) row ≡ Ok y →
     has_thread input.script y.0 ≡ true
 thread_fits input k row y e =
     has_it y.0.0 (length input.names.threads) (length input.script.threads) k.counts.threads (one_fits (thread_takes input.names k.fit.few) row y e)
 
+-- an APC that is read from a field is one of the script
 apc_fits : (input : Input) → Known input → (row : Row) (y : ApcNo × Row) → one_field (read_apc input.names) row ≡ Ok y → has_apc input.script y.0 ≡ true
 apc_fits input k row y e = has_it y.0.0 (length input.names.apcs) (length input.script.apcs) k.counts.apcs (one_fits (apc_takes input.names k.fit.few) row y e)
 
+-- a spin lock that is read from a field is one of the script
 lock_fits : (input : Input) → Known input → (row : Row) (y : LockNo × Row) → one_field (read_lock input.names) row ≡ Ok y → has_lock input.script y.0 ≡ true
 lock_fits input k row y e = has_it y.0.0 (length input.names.locks) input.script.locks k.counts.locks (one_fits (lock_takes input.names k.fit.few) row y e)
 
@@ -72,6 +77,7 @@ lock_fits input k row y e = has_it y.0.0 (length input.names.locks) input.script
 abbrev CommandRead : Script → Command × Row → Type 0
 CommandRead s y = (command_fits s y.0 ≡ true) × HasRange y.0
 
+-- a command that is read from a row fits the script and is in range
 command_plain : (input : Input) → Known input → (row : Row) (y : Command × Row) → command input row ≡ Ok y → CommandRead input.script y
 command_plain input k row y e =
     let P = CommandRead input.script in
@@ -85,6 +91,7 @@ command_plain input k row y e =
 abbrev BegunRead : Script → Begun × Row → Type 0
 BegunRead s y = (begun_fits s y.0 ≡ true) × BegunInRange y.0
 
+-- an activity that is read after its first word fits the script and is in range
 begun_of_plain : (input : Input) → Known input → (w : BegunWord) (row : Row) (y : Begun × Row) → begun_of input.names w row ≡ Ok y → BegunRead input.script y
 begun_of_plain input k of_begin.Int row y e =
     through (BegunRead input.script) (one_field read_level row) (λ (l : ℕ × Row). ok (of_begun.Int l.0, l.1)) y e
@@ -99,6 +106,7 @@ begun_of_plain input k (of_begin.Apc kind) row y e =
     through (BegunRead input.script) (one_field (read_apc input.names) row) (λ (a : ApcNo × Row). ok (of_begun.Apc a.0, a.1)) y e
     (λ a is then. made (BegunRead input.script) (of_begun.Apc a.0, a.1) y then (apc_fits input k row a is, tt))
 
+-- an activity that is read from a row fits the script and is in range
 begun_plain : (input : Input) → Known input → (row : Row) (y : Begun × Row) → begun input.names row ≡ Ok y → BegunRead input.script y
 begun_plain input k row y e =
     through (BegunRead input.script) (one_field read_begun_word row) (λ (w : BegunWord × Row). begun_of input.names w.0 w.1) y e
@@ -107,16 +115,19 @@ begun_plain input k row y e =
 abbrev KeyRead : Script → TimerKey × Row → Type 0
 KeyRead s y = key_fits s y.0 ≡ true
 
+-- a key that is read as that of a timer fits the script
 timer_key_plain : (input : Input) → Known input → (row : Row) (y : TimerKey × Row) → timer_key input.names row ≡ Ok y → KeyRead input.script y
 timer_key_plain input k row y e =
     through (KeyRead input.script) (one_field (read_timer input.names) row) (λ (t : TimerNo × Row). ok (key.Timer t.0, t.1)) y e
     (λ t is then. made (KeyRead input.script) (key.Timer t.0, t.1) y then (timer_fits input k row t is))
 
+-- a key that is read as that of a thread's delay fits the script
 delay_key_plain : (input : Input) → Known input → (row : Row) (y : TimerKey × Row) → delay_key input.names row ≡ Ok y → KeyRead input.script y
 delay_key_plain input k row y e =
     through (KeyRead input.script) (one_field (read_thread input.names) row) (λ (t : ThreadNo × Row). ok (key.Delay t.0, t.1)) y e
     (λ t is then. made (KeyRead input.script) (key.Delay t.0, t.1) y then (thread_fits input k row t is))
 
+-- a key that is read as that of an expiry fits the script
 expired_plain : (input : Input) → Known input → (row : Row) (y : TimerKey × Row) → expired input.names row ≡ Ok y → KeyRead input.script y
 expired_plain input k [] y e = absurd cc
 expired_plain input k (f ∷ fs) y e = go (bytes_eq f (codes "timer")) (bytes_eq f (codes "delay")) e
@@ -136,6 +147,7 @@ pub record WhatIsPlain (input : Input) (w : What) : Type 0 where
 abbrev WhatRead : Input → What × Row → Type 0
 WhatRead input y = WhatIsPlain input y.0
 
+-- an action that is read after a known first word fits the script and is in range
 what_of_plain : (input : Input) → Known input → (w : EventWord) (row : Row) (y : What × Row) → what_of input w row ≡ Ok y →
     WhatRead input y
 what_of_plain input k word.Call row y e =
@@ -206,6 +218,7 @@ what_of_plain input k word.Free row y e =
     (record { fits = lock_fits input k f.1 l is'; range = event_word row f is; bare = λ e. tt })))
 what_of_plain input k word.Rest row y e = made (WhatRead input) (Rest, row) y e (record { fits = refl; range = tt; bare = λ e. tt })
 
+-- an action that is read from a row fits the script and is in range
 what_plain : (input : Input) → Known input → (row : Row) (y : What × Row) → what input row ≡ Ok y → WhatRead input y
 what_plain input k row y e =
     through (WhatRead input) (one_field read_event_word row) (λ (w : EventWord × Row). what_of input w.0 w.1) y e
@@ -216,9 +229,11 @@ what_plain input k row y e =
 abbrev LineRead : Input → EventLine → Type 0
 LineRead input line = EventIsPlain input line.event
 
+-- the line of an event: its number, its processor, its thread, its level and its action
 line : ℕ → CpuNo → Option ThreadNo → ℕ → What → EventLine
 line n p t l w = record { number = n; event = record { cpu = p; thread = t; level = l; what = w } }
 
+-- the event that is read from a line is plain
 pub event_line_plain : (input : Input) → Known input → (number : List ℕ) (row : Row) (y : EventLine) →
     event_line input number row ≡ Ok y → EventIsPlain input y.event
 unfolding line

@@ -22,9 +22,11 @@ use Rattle.nt_report.proofs.PlainLines.{AllPlain, PartsArePlain, all_more}
 abbrev AreEvents : Input → List Event → Type 0
 AreEvents input events = AllByRecursion (EventIsPlain input) events
 
+-- a look of a processor of the script, with values that are in range, is a plain event
 look_plain : (input : Input) (p : CpuNo) (rises : Rises) → p.0 < input.script.cpus → AreRises input.version rises → EventIsPlain input (look_event p rises)
 look_plain input p rises lt r = (rw (lt-ltb p.0 input.script.cpus lt) refl, (omega arith, r, (refl, refl)))
 
+-- a list of events with one more put at its end is one longer
 more_length : (xs : List Event) (x : Event) → length (xs ++ x ∷ []) ≡ length xs + 1
 more_length [] x = refl
 more_length (y ∷ xs) x = let more = more_length xs x in omega (arith, more)

@@ -40,10 +40,12 @@ TextLine = List ℕ × Bool
 
 -- ---- lists
 
+-- what holds of all elements of a list and of one more holds of all of the list with it at the end
 pub all_more : {X : Type 0} (P : X → Type 0) (xs : List X) (x : X) → AllByRecursion P xs → P x → AllByRecursion P (xs ++ x ∷ [])
 all_more P [] x h p = (p, tt)
 all_more P (y ∷ xs) x h p = (h.0, all_more P xs x h.1 p)
 
+-- a list with one element more at the end is one longer
 pub more_length : {X : Type 0} (xs : List X) (x : X) → length (xs ++ x ∷ []) ≡ length xs + 1
 more_length [] x = refl
 more_length (y ∷ xs) x = let more = more_length xs x in omega (arith, more)
@@ -58,6 +60,7 @@ kept_few lines line = go (nat_lt (length lines) EVENTS)
     go true = let more = more_length lines line in omega (arith, more)
     go false = omega arith
 
+-- a line is kept behind the others while there are fewer lines than the bound of events
 pub kept_room : (lines : List EventLine) (line : EventLine) → length lines < EVENTS → kept lines line ≡ lines ++ line ∷ []
 kept_room lines line room = cond-true (ltb (length lines) EVENTS) (lines ++ line ∷ []) lines (lt-ltb (length lines) EVENTS room)
 
@@ -67,6 +70,7 @@ LineIsPlain input line = EventIsPlain input line.event
 abbrev pub AllPlain : Input → List EventLine → Type 0
 AllPlain input lines = AllByRecursion (LineIsPlain input) lines
 
+-- keeping a plain event line after plain ones leaves all of them plain
 kept_plain : (input : Input) (lines : List EventLine) (line : EventLine) → LineIsPlain input line → AllPlain input lines → AllPlain input (kept lines line)
 kept_plain input lines line one all = go (nat_lt (length lines) EVENTS)
   where
@@ -86,15 +90,18 @@ pub record Taken (input : Input) (w : Walked) (line : TextLine) (new : Walked) :
   pub part : ((in_schedule new.place ≡ false) × (new.schedule ≡ w.schedule)) ⊎
       ((s : ScheduleWalk) × (schedule_line input.script.cpus input w.schedule line ≡ Ok s) × (new ≡ with_schedule w s))
 
+-- a line that only moves the place before the schedule leaves the event lines and the schedule
 same_lines : (input : Input) (w : Walked) (line : TextLine) (place : ReportPlace) → in_schedule place ≡ false → Taken input w line (with_place w place)
 same_lines input w line place h = record { few = omega arith; plain = λ p. p; part = inl (h, refl) }
 
+-- a line of the schedule leaves the event lines, and makes the schedule's step
 schedule_taken : (input : Input) (w : Walked) (line : TextLine) (new : Walked) → schedule_step input w line ≡ Ok new → Taken input w line new
 schedule_taken input w line new e =
     through (Taken input w line) (schedule_line input.script.cpus input w.schedule line) (λ (s : ScheduleWalk). ok (with_schedule w s)) new e
     (λ s is so. made (Taken input w line) (with_schedule w s) new so
     (record { few = omega arith; plain = λ p. p; part = inr (s, is, refl) }))
 
+-- what a line with a known first word does before the schedule keeps event lines plain
 act_taken : (input : Input) → Known input → (w : Walked) (word : LineWord) (row : Row) (line : TextLine) (new : Walked) → in_schedule w.place ≡ false →
     act input w word row line ≡ Ok new → Taken input w line new
 act_taken input k w word.Report row line new h e =
@@ -121,6 +128,7 @@ act_taken input k w word.Waits row line new h e =
     (λ x is so. made (Taken input w line) (with_place w InWaits) new so (same_lines input w line InWaits refl))
 act_taken input k w word.Schedule row line new h e = schedule_taken input w line new e
 
+-- a line that is read in the front of the report keeps event lines plain
 front_taken : (input : Input) → Known input → (w : Walked) (line : TextLine) (new : Walked) → in_schedule w.place ≡ false → front_step input w line ≡ Ok new →
     Taken input w line new
 front_taken input k w line new h e =
@@ -128,6 +136,7 @@ front_taken input k w line new h e =
     (λ row is so. through (Taken input w line) (word_at w.place (line_word (first row))) (λ (word : LineWord). act input w word row line) new so
     (λ word is' so'. act_taken input k w word row line new h so'))
 
+-- a line that the reader takes adds at most one plain event, or is a line of the schedule
 pub step_taken : (input : Input) → Known input → (w : Walked) (line : TextLine) (new : Walked) → line_step input w line ≡ Ok new → Taken input w line new
 step_taken input k w line new e = go w.place refl e
   where
@@ -141,6 +150,7 @@ step_taken input k w line new e = go w.place refl e
 
 -- ---- all lines
 
+-- if two steps in a row succeed, what the second one gives has what each of its results has
 then_ok : {A B : Type 0} (P : B → Type 0) (r : Result A (ℕ × ScriptKind)) (f : A → Result B (ℕ × ScriptKind)) (y : B) → and_then r f ≡ Ok y →
     ((x : A) → r ≡ Ok x → f x ≡ Ok y → P y) → P y
 then_ok P (Ok x) f y e k = k x refl e
@@ -149,6 +159,7 @@ then_ok P (Err bad) f y e k = absurd cc
 abbrev done : {A : Type 0} → A → Result A (ℕ × ScriptKind)
 done x = Ok x
 
+-- what holds of a result holds of what a step that ends with it gives
 done_is : {A : Type 0} (P : A → Type 0) (x y : A) → done x ≡ Ok y → P x → P y
 done_is P x y e h = let same : x ≡ y = cc in subst P same h
 
@@ -169,6 +180,7 @@ pub record Went (input : Input) (w : Walked) (n : ℕ) (line : TextLine) (more :
   pub step : line_step input w line ≡ Ok new
   pub goes_on : walk input new (n + 1) more ≡ Ok parts
 
+-- a reading of several lines that succeeds takes the first one and then the others
 pub went : (input : Input) (w : Walked) (n : ℕ) (line : TextLine) (more : List TextLine) (parts : Parts) → walk input w n (line ∷ more) ≡ Ok parts →
     Went input w n line more parts
 went input w n line more parts e = go (line_step input w line) refl e
@@ -246,6 +258,7 @@ pub record PartsArePlain (input : Input) (parts : Parts) : Type 0 where
   pub schedule : IsPlainSchedule input parts.schedule
   pub below : AreBelow input.script.cpus parts.schedule.list
 
+-- the parts that are read are plain, and the event lines are no more than the lines
 pub parts_plain : (input : Input) → IsSound input → (n : ℕ) (ls : List TextLine) (parts : Parts) → walk input start n ls ≡ Ok parts →
     PartsArePlain input parts × (length parts.lines ≤ length ls)
 unfolding IsReadAs

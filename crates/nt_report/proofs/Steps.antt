@@ -16,6 +16,7 @@ pub through : {A B : Type 0} (P : B → Type 0) (r : Result A ScriptKind) (f : A
 through P (Ok x) f y e k = k x refl e
 through P (Err d) f y e k = absurd cc
 
+-- if two readings of a line have equal results, what holds of the one value holds of the other
 pub made : {B : Type 0} (P : B → Type 0) (x y : B) → ok x ≡ Ok y → P x → P y
 made P x y e h = let same : x ≡ y = cc in subst P same h
 
@@ -31,6 +32,7 @@ pub one_fits : {A : Type 0} {read : List ℕ → Result A ScriptKind} {show : A 
     one_field read row ≡ Ok y → Fits y.0
 one_fits {read = read} t row y e = let o = one_ok read row y e in t.fits o.0 y.0 o.1
 
+-- if a row is at its end as it has to be, the value that is read is the one given
 pub end_ok : {A : Type 0} (x y : A) (row : Row) → at_end x row ≡ Ok y → x ≡ y
 end_ok x y [] e = cc
 end_ok x y (f ∷ fs) e = absurd cc
@@ -45,6 +47,7 @@ pub kept : {A : Type 0} (b : Bool) (o : Option A) (y : A) → cond b o None ≡ 
 kept true o y e = (refl, e)
 kept false o y e = absurd cc
 
+-- if a choice between nothing and an option gives a value, the option has that value
 pub missed : {A : Type 0} (b : Bool) (o : Option A) (y : A) → cond b None o ≡ Some y → o ≡ Some y
 missed false o y e = e
 missed true o y e = absurd cc
@@ -53,5 +56,6 @@ missed true o y e = absurd cc
 pub not_ok : {A E X : Type 0} (d : E) (y : A) → ◌≡◌ {A = Result A E} (Err d) (Ok y) → X
 not_ok d y e = absurd cc
 
+-- if two results of any kind are equal, what holds of the one value holds of the other
 pub ok_is : {A E : Type 0} (P : A → Type 0) (x y : A) → ◌≡◌ {A = Result A E} (Ok x) (Ok y) → P x → P y
 ok_is P x y e h = let same : x ≡ y = cc in subst P same h

@@ -40,6 +40,7 @@ runs_as IsGone fs runs h r = absurd (h.0 r)
 abbrev pub Ends : Doing → Doing → Type 0
 Ends old new = (new ≡ old) ⊎ ((w : Waiting) × (st : ℕ) × (old ≡ IsBlocked w) × (new ≡ IsReady w.level (Some st)))
 
+-- a thread whose wait passes a test is blocked in some wait
 waits_some : (test : Waiting → Bool) (x : ThreadFacts) → waits_as test x ≡ true → (w : Waiting) × (x.doing ≡ IsBlocked w)
 waits_some test x h = go x.doing refl h
   where
@@ -49,9 +50,11 @@ waits_some test x h = go x.doing refl h
     go IsRunning e h = cc
     go IsGone e h = cc
 
+-- making a blocked thread ready with a status, at the level of its wait, ends its wait
 ends_so : (st : ℕ) (old : Doing) (w : Waiting) → old ≡ IsBlocked w → Ends old (IsReady (doing_level old) (Some st))
 ends_so st old w e = inr (w, st, e, ap (λ (d : Doing). IsReady (doing_level d) (Some st)) e)
 
+-- a release leaves a thread's doing as it was or ends its wait
 release_ends : (x : ThreadFacts) → Ends x.doing (release_facts x).doing
 release_ends x = go (ends_by_release x) refl
   where
@@ -63,10 +66,12 @@ release_ends x = go (ends_by_release x) refl
     go true e = let k = waits_some (λ w. not w.delay) x e in ends_so satisfied x.doing k.0 k.1
     go false e = other (is_gone x)
 
+-- setting or clearing an alert flag leaves what a thread is doing
 set_doing : (m : Mode) (b : Bool) (x : ThreadFacts) → (set_alerted m b x).doing ≡ x.doing
 set_doing KernelMode b x = refl
 set_doing UserMode b x = refl
 
+-- an alert leaves a thread's doing as it was or ends its wait
 alert_ends : (m : Mode) (x : ThreadFacts) → Ends x.doing (alert_facts m x).doing
 alert_ends m x = gone (is_gone x) (ends_by_alert m x) refl
   where
@@ -77,6 +82,7 @@ alert_ends m x = gone (is_gone x) (ends_by_alert m x) refl
         ends_so alerted x.doing k.0 k.1
     gone false false e = inl (set_doing m true x)
 
+-- the expiry of a timeout leaves a thread's doing as it was or ends its wait
 expiry_ends : (from : ℕ) (x : ThreadFacts) → Ends x.doing (expiry_facts from x).doing
 expiry_ends from x = go (ends_by_expiry from x) refl
   where
@@ -84,6 +90,7 @@ expiry_ends from x = go (ends_by_expiry from x) refl
     go true e = let k = waits_some (λ w. w.delay && (w.event == from)) x e in ends_so satisfied x.doing k.0 k.1
     go false e = inl refl
 
+-- a thread whose wait an APC ends is blocked
 apc_blocked : (pick : Pick) (x : ThreadFacts) → ends_by_apc pick x ≡ true → (w : Waiting) × (x.doing ≡ IsBlocked w)
 apc_blocked pick x h = go (is_kernel_kind pick.kind) h
   where
@@ -91,6 +98,7 @@ apc_blocked pick x h = go (is_kernel_kind pick.kind) h
     go true h = waits_some (λ w. is_some (deliverable (with_apc pick x.apcs) w.regions w.level)) x h
     go false h = waits_some (λ w. is_user w.mode && (w.alertable || x.user_pending)) x h
 
+-- the insert of an APC leaves a thread's doing as it was or ends its wait
 insert_ends : (pick : Pick) (x : ThreadFacts) → Ends x.doing (insert_facts pick x).doing
 insert_ends pick x = go (ends_by_apc pick x) (is_kernel_kind pick.kind) refl
   where
@@ -101,10 +109,12 @@ insert_ends pick x = go (ends_by_apc pick x) (is_kernel_kind pick.kind) refl
     go true false e = let k = apc_blocked pick x e in ends_so user_apc x.doing k.0 k.1
     go false k e = inl refl
 
+-- a change made only under a condition leaves the doing or ends the wait, if the change itself does
 ends_if : (b : Bool) (x y : ThreadFacts) → Ends x.doing y.doing → Ends x.doing (if b then y else x).doing
 ends_if true x y h = h
 ends_if false x y h = inl refl
 
+-- what an event does to a thread as its target leaves its doing as it was or ends its wait
 pub named_ends : (s : Script) (t : ThreadNo) (n : ℕ) (w : What) (x : ThreadFacts) → Ends x.doing (named_facts s t n w x).doing
 named_ends s t n (Call f (Release u) y) x = ends_if (is_answer y && (u.0 == t.0)) x (release_facts x) (release_ends x)
 named_ends s t n (Call f (Alert u m) y) x = ends_if (is_answer y && (u.0 == t.0)) x (alert_facts m x) (alert_ends m x)
@@ -115,6 +125,7 @@ named_ends s t n (Call f (RemoveApc a) Yes) x =
 named_ends s t n (Expire (OfDelay u) from) x = ends_if (u.0 == t.0) x (expiry_facts from x) (expiry_ends from x)
 named_ends s t n w x = inl refl
 
+-- what facts say of frames they still say after the thread's wait is ended
 pub says_ended : (old new : Doing) (fs : List Frame) (runs : Type 0) → Ends old new → Says old fs runs → Says new fs runs
 says_ended old new fs runs (inl e) h = subst (λ (d : Doing). Says d fs runs) (sym e) h
 says_ended old new fs runs (inr k) h =
@@ -126,6 +137,7 @@ runs_on : (old new : Doing) → Ends old new → old ≡ IsRunning → new ≡ I
 runs_on old new (inl e) r = e ∙ r
 runs_on old new (inr k) r = let x : IsRunning ≡ IsBlocked k.0 = sym r ∙ k.2 in cc
 
+-- what facts say of frames depends only on the frames and on whether the thread runs
 pub says_same : (d : Doing) (fs gs : List Frame) (a b : Type 0) → fs ≡ gs → (a → b) → (b → a) → Says d fs a → Says d gs b
 says_same IsRunning fs gs a b e f g h = f h
 says_same (IsReady level st) fs gs a b e f g h = (λ r. h.0 (g r), h.1 ∙ ap level_of e)

@@ -58,6 +58,7 @@ use Rattle.nt_runs.proofs.Stops.{NoneAgain, none_again, null_of, refuse_none}
 use Rattle.nt_event.proofs.Tables.{get_or-table}
 use Rattle.nt_runs.proofs.UserApcs.{apcs_low}
 
+-- in a run the thread that runs on a processor is a declared one of its own, and its facts say that it runs
 pub processors_stand : (s : Script) (limit : ℕ) (p : CpuNo) (past : List Event) → IsRun s limit past → StandHolds s (lanes_at s past) (stand_at s p past)
 processors_stand s limit p past r = go (running p past) refl
   where
@@ -88,6 +89,7 @@ abbrev TaskDue : Own → Task → Type 0
 TaskDue x (Alone w) = Unit {0}
 TaskDue x (Shared j) = DueIs x j
 
+-- a job among the tasks that must be done first is due
 must_due : (x : Own) → Holds (TaskDue x) (must_task x)
 must_due x =
     holds_or (TaskDue x) (fire_task x) _ (holds_map (TaskDue x) (λ d. Shared (FireJob d)) x.fire (λ d e. tt))
@@ -97,6 +99,7 @@ must_due x =
     (λ k2. holds_or (TaskDue x) (when (may_apcs x) (Some (Shared ApcsJob))) _ (holds_when (TaskDue x) (may_apcs x) (Some (Shared ApcsJob)) (λ h. h))
     (λ k3. holds_when (TaskDue x) (may_threaded x) (Some (Shared ThreadedJob)) (λ h. tt)))))
 
+-- the task of a command of the innermost frame is due, with the refusal that the command gets there
 call_due : (x : Own) (f : Frame) (c : Command) → innermost x.frames ≡ Some f → TaskDue x (call_task f c (refusal_in x f c))
 call_due x f c h = go c (refusal_in x f c) refl
   where
@@ -109,10 +112,12 @@ call_due x f c h = go c (refusal_in x f c) refl
     go ToUser None e = (f, h, e)
     go c None e = lane c e (needs_lane c) refl
 
+-- the task of the next command of the innermost frame, if it has one, is due
 command_due : (x : Own) (f : Frame) (o : Option Command) → innermost x.frames ≡ Some f → Holds (TaskDue x) (command_task x f o)
 command_due x f None h = tt
 command_due x f (Some c) h = call_due x f c h
 
+-- the task that ends the innermost frame is due
 end_due : (x : Own) (f : Frame) (n : ℕ) → innermost x.frames ≡ Some f → TaskDue x (end_task n f.body)
 end_due x f n h = go f.body refl
   where
@@ -121,6 +126,7 @@ end_due x f n h = go f.body refl
     go (OnApc a UserApc) e = (f, h, ap is_own_body e)
     go b e = tt
 
+-- each task that the innermost frame gives is due
 frame_due : (s : Script) (p : CpuNo) (x : Own) (f : Frame) → innermost x.frames ≡ Some f → Holds (TaskDue x) (frame_task s p x f)
 frame_due s p x f h =
     holds_or (TaskDue x) (rewait_task f) _ (holds_when (TaskDue x) (is_some f.again) (Some (Shared RewaitJob)) (λ e. (f, h, e)))
@@ -130,6 +136,7 @@ frame_due s p x f h =
     (λ k4. holds_or (TaskDue x) (normal_task f) _ (holds_when (TaskDue x) (f.kernel_phase && has_normal f.body) (Some (Alone (Normal f.name))) (λ e. tt))
     (λ k3. end_due x f f.name h)))))
 
+-- the next task of a processor is due
 task_due : (s : Script) (p : CpuNo) (x : Own) → Holds (TaskDue x) (task s p x)
 task_due s p x =
     holds_or (TaskDue x) (must_task x) _ (must_due x) (λ e. holds_when (TaskDue x) (not (waits_for_lock x)) (go_on_task s p x)
@@ -139,6 +146,7 @@ task_due s p x =
 
 -- ---- so it is allowed
 
+-- an answer that comes is some answer
 some_runs : (o : Option ThreadNo) → Comes o → IsSome o
 some_runs o h = rw h.1 refl
 
@@ -146,11 +154,13 @@ some_runs o h = rw h.1 refl
 accepted_in : (n level : ℕ) (own : Bool) → refuse own NotThread (not_above n level None) ≡ None → (own ≡ false) × (level ≤ n)
 accepted_in n level own h = (refuse_none own NotThread _ h, not_above_gives n level (next_test own NotThread _ h))
 
+-- an innermost frame on a thread's part at a level of at most n has its thread run there at such a level
 in_thread : (s : Script) (p : CpuNo) (past : List Event) (f : Frame) (n : ℕ) → innermost (frames_of s p past) ≡ Some f →
     (not (is_null (own_frames p past)) ≡ false) × (level_in (frames_of s p past) ≤ n) → InThread n (stand_at s p past)
 in_thread s p past f n h k =
     record { thread = some_runs (running p past) (thread_runs (frames_of s p past) f h (null_of (is_null (own_frames p past)) k.0)); level = k.1 }
 
+-- a command that isn't refused may be called where its processor stands
 call_allowed : (s : Script) (p : CpuNo) (past : List Event) (f : Frame) (c : Command) → innermost (frames_of s p past) ≡ Some f →
     refusal_in (own_of s p past) f c ≡ None → IsCallable (stand_at s p past) c
 call_allowed s p past f (StartWait m a) h e = in_thread s p past f 1 h (accepted_in 1 (level_in (frames_of s p past)) _ e)
@@ -169,6 +179,7 @@ touser_allowed s p past f h e =
     let b : nat_lt 0 (level_in (frames_of s p past)) ≡ false = refuse_none (nat_lt 0 (level_in (frames_of s p past))) TooHigh _ low in
     in_thread s p past f 0 h (own, ltb-false 0 (level_in (frames_of s p past)) b)
 
+-- where APCs may be delivered a thread runs at PASSIVE_LEVEL
 apcs_allowed : (s : Script) (p : CpuNo) (past : List Event) → may_apcs (own_of s p past) ≡ true → InThread 0 (stand_at s p past)
 apcs_allowed s p past h =
     let k = apcs_low (own_of s p past) h in
@@ -191,10 +202,12 @@ again_null s p past f h a own = go (own_frames p past) refl own
         let none : is_some f.again ≡ false = ap (λ (z : Frame). is_some z.again) (sym same) ∙ ap (λ (q : Option Again). is_some q) o.0 in
         absurd (both_ways (is_some f.again) none a)
 
+-- a wait to take up that passes the test of presence is there
 some_is : (o : Option Again) → is_some o ≡ true → IsSome o
 some_is None h = cc
 some_is (Some x) h = refl
 
+-- in a run a processor whose innermost frame has a wait to take up stands where one may be taken up
 rewait_allowed : (s : Script) (limit : ℕ) (p : CpuNo) (past : List Event) (f : Frame) → IsRun s limit past → innermost (frames_of s p past) ≡ Some f →
     is_some f.again ≡ true → TakesUp (stand_at s p past)
 rewait_allowed s limit p past f r h a =
@@ -209,6 +222,7 @@ rewait_allowed s limit p past f r h a =
     let wait : (stand_at s p past).again ≡ f.again = ap (λ (o : Option Frame). option_and_then (λ g. g.again) o) h in
     record { thread = some_runs (running p past) t; level = omega (arith, low, level); wait = subst IsSome (sym wait) (some_is f.again a) }
 
+-- in a run a processor whose innermost frame is leaving runs a thread that is leaving
 rundown_allowed : (s : Script) (limit : ℕ) (p : CpuNo) (past : List Event) (f : Frame) → IsRun s limit past → innermost (frames_of s p past) ≡ Some f →
     f.leaving ≡ true → EndsThread (lanes_at s past) (stand_at s p past)
 rundown_allowed s limit p past f r h l =
@@ -236,6 +250,7 @@ rundown_allowed s limit p past f r h l =
         (ltb-true t.0.0 (length s.threads) b.1) in
         ap (λ (x : ThreadFacts). x.leaving) known ∙ (leaves_as s limit t.0 past r ∙ (ap (λ (q : CpuNo). base_leaving (thread_frames s q t.0 past)) own ∙ base))
 
+-- in a run a job that is known to be due by its own tests is allowed
 due_allowed : (s : Script) (limit : ℕ) (p : CpuNo) (j : Job) (past : List Event) → IsRun s limit past → DueIs (own_of s p past) j →
     IsAllowed (lanes_at s past) (stand_at s p past) j
 due_allowed s limit p (CallJob c) past r d = (T_of (needs_lane c) d.0, call_allowed s p past d.1 c d.2 d.3)
@@ -253,6 +268,7 @@ due_allowed s limit p LeaveJob past r d =
 due_allowed s limit p RundownJob past r d = rundown_allowed s limit p past d.0 r d.1 d.2
 due_allowed s limit p j past r d = tt
 
+-- in a run a job that is due is allowed
 pub jobs_allowed : (s : Script) (limit : ℕ) (p : CpuNo) (j : Job) (past : List Event) → IsRun s limit past → IsDue s p (own_of s p past) j →
     IsAllowed (lanes_at s past) (stand_at s p past) j
 jobs_allowed s limit p j past r (inl d) =

@@ -48,9 +48,11 @@ abbrev pub AllCalm : List Frame → Type 0
 AllCalm [] = Unit {0}
 AllCalm (f ∷ fs) = Calm f × AllCalm fs
 
+-- false isn't true, so anything follows (for calm frames)
 no_bool : {A : Type 0} → false ≡ true → A
 no_bool h = cc
 
+-- where a wait is to be taken up after a reply, it was to be taken up before
 again_some : (y : Reply) (o : Option Again) → is_some (again_after y o o) ≡ true → is_some o ≡ true
 again_some (Status st) o h = go (st == kernel_apc) h
   where
@@ -59,13 +61,16 @@ again_some (Status st) o h = go (st == kernel_apc) h
     go false h = cc
 again_some y o h = h
 
+-- a frame that comes back from a wait stays calm
 resumed_calm : (st : Option ℕ) (f : Frame) → Calm f → Calm (resumed st f)
 resumed_calm None f h = h
 resumed_calm (Some x) f h = (h.0, λ k. h.1 (again_some (Status x) f.again k))
 
+-- a frame that took up its wait again stays calm
 rewaited_calm : (y : Reply) (f : Frame) → Calm f → Calm (rewaited y f)
 rewaited_calm y f h = (h.0, λ k. h.1 (again_some y f.again k))
 
+-- a change by name that keeps each frame calm keeps all calm
 named_calm : (n : ℕ) (g : Frame → Frame) (fs : List Frame) → ((f : Frame) → Calm f → Calm (g f)) → AllCalm fs → AllCalm (at_name n g fs)
 named_calm n g [] k h = h
 named_calm n g (f ∷ fs) k h = (go (f.name == n), h.1)
@@ -74,6 +79,7 @@ named_calm n g (f ∷ fs) k h = (go (f.name == n), h.1)
     go true = k f h.0
     go false = h.0
 
+-- the end of the innermost frame of a thread leaves all frames calm
 end_calm : (n : ℕ) (fs : List Frame) → AllCalm fs → AllCalm (end_on_thread n fs)
 end_calm n [] h = h
 end_calm n (f ∷ fs) h = go (f.name == n) (is_base_body f.body)
@@ -83,20 +89,24 @@ end_calm n (f ∷ fs) h = go (f.name == n) (is_base_body f.body)
     go true false = h.1
     go false c = h
 
+-- a flushed APC leaves all frames calm, with its rundown routine or without
 flushed_calm : (n : ℕ) (a : ApcNo) (o : Option RoutineNo) (fs : List Frame) → AllCalm fs → AllCalm (flushed n a o fs)
 flushed_calm n a None fs h = h
 flushed_calm n a (Some r) fs h = ((λ k. no_bool k, λ k. no_bool k), h)
 
+-- a switch to a thread leaves all its frames calm
 switched_calm : (n : ℕ) (t : ThreadNo) (st : Option ℕ) (fs : List Frame) → AllCalm fs → AllCalm (switched_to n t st fs)
 switched_calm n t st [] h = ((λ k. no_bool k, λ k. no_bool k), tt)
 switched_calm n t st (f ∷ fs) h = (resumed_calm st f h.0, h.1)
 
 -- ---- calls
 
+-- where a chain of tests refuses nothing, the tests after the first refuse nothing
 pub next_test : (b : Bool) (r : Refusal) (o : Option Refusal) → refuse b r o ≡ None → o ≡ None
 next_test true r o h = cc
 next_test false r o h = h
 
+-- where the test of the level refuses nothing, the level is at most its bound
 pub not_above_gives : (n level : ℕ) → not_above n level None ≡ None → level ≤ n
 not_above_gives n level h = ltb-false n level (refuse_none (nat_lt n level) TooHigh None h)
 
@@ -106,9 +116,11 @@ wait_low level own r f (StartWait m a) k h = not_above_gives 1 level (next_test 
 wait_low level own r f (Delay m a u) k h = not_above_gives 1 level (next_test own NotThread _ h)
 wait_low level own r f c k h = cc
 
+-- the level of a processor with an innermost frame is that frame's level
 pub level_inner : (x : Own) (f : Frame) → innermost x.frames ≡ Some f → level_at x ≡ f.level
 level_inner x f h = ap (λ (o : Option Frame). option_map_or (λ f. f.level) o 0) h
 
+-- a call of a wait or delay leaves the level of its frame
 wait_level : (due : Option ℕ) (c : Command) (y : Reply) (f : Frame) → is_wait c ≡ true → (called due c y f).level ≡ f.level
 wait_level due (StartWait m a) y f h = refl
 wait_level due (Delay m a u) y f h = refl
@@ -164,11 +176,13 @@ inner_calm x n m g i (f ∷ fs) inner named calm e d h = go x.frames.own refl d.
         other true q differ = absurd (differ (eqb-true f.name n q))
         other false q differ = h.0
 
+-- a known call leaves all frames of the running thread calm
 call_calm : (s : Script) (p : CpuNo) (x : Own) (l : Lanes) (n m : ℕ) (due : Option ℕ) (c : Command) (y : Reply) (fs : List Frame) → KnownCall s p x l n c y →
     thread_part x.frames ≡ fs → Named m x.frames.own fs → AllCalm fs → AllCalm (at_name n (called due c y) fs)
 call_calm s p x l n m due c y fs k e d h =
     inner_calm x n m (called due c y) k.frame fs k.goes_on.inner k.name (called_calm s p x l n due c y k) e d h
 
+-- the freeing of a lock leaves all frames of the running thread calm
 free_calm : (s : Script) (p : CpuNo) (x : Own) (n m : ℕ) (c : LockNo) (fs : List Frame) → KnownFree s p x n c → thread_part x.frames ≡ fs →
     Named m x.frames.own fs → AllCalm fs → AllCalm (at_name n freed fs)
 free_calm s p x n m c fs k e d h =
@@ -206,6 +220,7 @@ ran s limit p t e past o b g n = go e.what refl n
         ∙ (sym (thread_named s limit e past g) ∙ same_thread e.thread t b) in
         ap (λ (q : CpuNo). running q past) (sym (same_cpu e p o)) ∙ field
 
+-- in a run a legal event leaves all frames of a thread calm
 calm_step : (s : Script) (limit : ℕ) (p : CpuNo) (t : ThreadNo) (e : Event) (past : List Event) (own by : Bool) → is_of e p ≡ own → is_by e t ≡ by →
     IsLegal s limit e past → IsRun s limit past → AllCalm (thread_frames s p t past) → AllCalm (thread_frames s p t (e ∷ past))
 calm_step s limit p t e past false by o b g r ih =
@@ -227,6 +242,7 @@ calm_step s limit p t e past true true o b g r ih =
           part_of_running s p t past h.0 run,
         )
 
+-- in a run each frame of a thread is calm: PASSIVE_LEVEL if leaving, APC_LEVEL or below with a wait to take up
 pub all_calm : (s : Script) (limit : ℕ) (p : CpuNo) (t : ThreadNo) (past : List Event) → IsRun s limit past → AllCalm (thread_frames s p t past)
 all_calm s limit p t [] r = tt
 all_calm s limit p t (e ∷ past) r =
@@ -240,6 +256,7 @@ leaving_low f (g ∷ fs) h l c =
     let q : g.leaving ≡ true = ap (λ (z : Frame). z.leaving) same ∙ l in
     c.0.0 q
 
+-- where the innermost frame has a wait to take up, the level is APC_LEVEL or below
 pub again_low : (f : Frame) (fs : List Frame) → head_of fs ≡ Some f → is_some f.again ≡ true → AllCalm fs → level_of fs ≤ 1
 again_low f [] h l c = cc
 again_low f (g ∷ fs) h l c =

@@ -38,16 +38,19 @@ gives : (s : Script) (limit : ℕ) (t : Turn) (past : List Event) (k : ScheduleK
 gives s limit t past k o w below uncut u c =
     rw (below, uncut) (u ∙ ap (event_or s (cpu_at t) (own_of s (cpu_at t) past) k) c)
 
+-- a task that fails the test of presence is none
 none_of_false : (o : Option Task) → is_some o ≡ false → o ≡ None
 none_of_false None h = refl
 none_of_false (Some t) h = cc
 
+-- where a processor may switch, no thread runs, its own part is empty and it has nothing that it must do first
 pub switch_parts : (o : Option ThreadNo) (a m : Bool) → (is_none o && (a && not m)) ≡ true → (o ≡ None) × (a ≡ true) × (m ≡ false)
 switch_parts None true false h = (refl, refl, refl)
 switch_parts None true true h = cc
 switch_parts None false m h = cc
 switch_parts (Some t) a m h = cc
 
+-- a list of frames that is empty has no head
 pub null_head : (fs : List Frame) → is_null fs ≡ true → head_of fs ≡ None
 null_head [] h = refl
 null_head (f ∷ fs) h = cc
@@ -70,6 +73,7 @@ idle_where s p past may awake =
     task_goes_on s p x quiet up.1
     ∙ (ap (λ (o : Option Frame). option_or (option_and_then (frame_task s p x) o) (idle_task x)) none ∙ idle)
 
+-- what an uncut processor chooses itself is the event of its go-on turn in the robin rule
 pub chosen_is_its_turn : (s : Script) (limit : ℕ) (p : CpuNo) (past : List Event) (w : What) → IsRun s limit past → nat_lt p.0 s.cpus ≡ true →
     is_cut limit (own_of s p past) ≡ false → chosen_what s p (own_of s p past) (lanes_at s past) ≡ Some w →
     step s limit (go_on_turn s p (own_of s p past) (lanes_at s past)) past ≡ Ok (event_at s p w (frames_of s p past))
@@ -107,9 +111,11 @@ chosen_is_its_turn s limit p past w r below uncut h =
     rest false false a b k =
         gives s limit (Next p) past NothingToDo (next_what s p (own_of s p past) (lanes_at s past)) w below uncut refl k
 
+-- an answer that comes passes the test of presence
 some_of : {A : Type 0} (o : Option A) → Comes o → is_some o ≡ true
 some_of o h = rw h.1 refl
 
+-- a processor has an event to choose exactly where it isn't still
 pub chosen_comes : (s : Script) (limit : ℕ) (p : CpuNo) (past : List Event) → IsRun s limit past →
     is_some (chosen_what s p (own_of s p past) (lanes_at s past)) ≡ not (is_still (own_of s p past))
 chosen_comes s limit p past r = go (is_still (own_of s p past)) (may_switch (own_of s p past)) refl refl

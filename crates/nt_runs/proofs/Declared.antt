@@ -30,6 +30,7 @@ each p xs i x h e =
     let b : i < length xs = slice_get_within xs i x e in
     subst (λ (y : _). p y ≡ true) (get_or_from_slice_get xs i x x e) (AllPass-from_list_all p xs h i x b)
 
+-- in a script that fits each command of a routine fits
 in_routine : (s : Script) (r : Option RoutineNo) (i : ℕ) (k : Command) → fits s ≡ true → slice_get (commands_of s r) i ≡ Some k → command_fits s k ≡ true
 in_routine s None i k h e = absurd cc
 in_routine s (Some r) i k h e = go (slice_get s.routines r.0) refl e
@@ -47,6 +48,7 @@ next_fits s p f k h e = go f.leaving e
     go true q = absurd cc
     go false q = in_routine s (routine_of s p f.body f.kernel_phase) f.place k h q
 
+-- in a script that fits each declared timer fits
 timer_declared : (s : Script) (t : ℕ) (x : TimerDecl) → fits s ≡ true → slice_get s.timers t ≡ Some x → timer_fits s x ≡ true
 timer_declared s t x h e =
     let a = both _ _ h in

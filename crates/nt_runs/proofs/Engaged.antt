@@ -54,6 +54,7 @@ inner_own P x n g i (f ∷ fs) o inner q h =
     either true z = z
     either false z = h.0
 
+-- what holds of each frame holds of each that is left after a named one is taken out
 pub without_each : (P : Frame → Type 0) (n : ℕ) (fs : List Frame) → Each P fs → Each P (without n fs)
 without_each P n [] h = h
 without_each P n (f ∷ fs) h = go (f.name == n)
@@ -62,6 +63,7 @@ without_each P n (f ∷ fs) h = go (f.name == n)
     go true = h.1
     go false = h
 
+-- a known event keeps the rules of locks for each frame of the own part
 own_after_locked : (s : Script) (p : CpuNo) (x : Own) (l : Lanes) (n : ℕ) (due : Option ℕ) (w : What) (gs : List Frame) → x.frames.own ≡ gs →
     (is_next w ≡ true → Known s p x l w) → Each (Locked s p) gs → Each (Locked s p) (own_after n due w gs)
 own_after_locked s p x l n due (Begin (Int c) from) gs o k h = (new_locked s p n (OnInt c), h)
@@ -82,6 +84,7 @@ known_of s limit p e past o g w k n =
     subst (λ (v : What). Known s p (own_of s p past) (lanes_at s past) v) k
     (subst (λ (q : CpuNo). Known s q (own_of s q past) (lanes_at s past) e.what) (same_cpu e p o) (legal_known s limit e past g (ap is_next k ∙ n)))
 
+-- in a run each frame on a processor's own part keeps the rules of locks
 pub own_locked : (s : Script) (limit : ℕ) (p : CpuNo) (past : List Event) → IsRun s limit past → Each (Locked s p) (own_frames p past)
 own_locked s limit p [] r = tt
 own_locked s limit p (e ∷ past) r = go (is_of e p) refl (own_locked s limit p past r.1)
@@ -93,6 +96,7 @@ own_locked s limit p (e ∷ past) r = go (is_of e p) refl (own_locked s limit p 
         (λ n. known_of s limit p e past o r.0 e.what refl n) h
     go false o h = h
 
+-- in a run each frame of a thread keeps the rules of locks
 pub thread_locked : (s : Script) (limit : ℕ) (p : CpuNo) (t : ThreadNo) (past : List Event) → IsRun s limit past → Each (Locked s p) (thread_frames s p t past)
 thread_locked s limit p t past r = each_frame s p (Locked s p) (locked_kept s p) limit t past r
 
@@ -113,6 +117,7 @@ pub record Parted (s : Script) (p : CpuNo) (past : List Event) : Type 0 where
   pub tail : (t : ThreadNo) → Each Clear (tail_of (thread_frames s p t past))
   pub over : (t : ThreadNo) → running p past ≡ Some t → Over (own_frames p past) (thread_frames s p t past)
 
+-- either the thread is the one that runs, or it isn't
 pub either_runs : (o : Option ThreadNo) (t : ThreadNo) → (o ≡ Some t) ⊎ (o ≡ Some t → ⊥)
 either_runs None t = inr (λ e. no_thread t e)
   where
@@ -127,6 +132,7 @@ either_runs (Some u) t = go (u.0 == t.0) refl
         differ : Some u ≡ Some t → ⊥
         differ q = let same : u ≡ t = cc in let k : (u.0 == t.0) ≡ true = eq-eqb u.0 t.0 (ap (λ (v : ThreadNo). v.0) same) in cc
 
+-- frames under rules of locks are all clear at APC_LEVEL or below, if those under the innermost are
 clear_head : (s : Script) (p : CpuNo) (fs : List Frame) → Each (Locked s p) fs → level_of fs ≤ 1 → Each Clear (tail_of fs) → Each Clear fs
 clear_head s p [] h l t = tt
 clear_head s p (f ∷ fs) h l t = (clear_low s p f h.0 l, t)
@@ -162,6 +168,7 @@ low_all s limit p past r h l = go (own_frames p past) refl (own_locked s limit p
 
 -- ---- what an event leaves of the own part
 
+-- a change by name that keeps base levels keeps frames with locks off those under them
 named_under : (n : ℕ) (g : Frame → Frame) (fs : List Frame) → ((f : Frame) → base_of (g f) ≡ base_of f) → Under fs → Under (at_name n g fs)
 named_under n g [] k h = h
 named_under n g (f ∷ fs) k h = (go (f.name == n), h.1)
@@ -170,6 +177,7 @@ named_under n g (f ∷ fs) k h = (go (f.name == n), h.1)
     go true z = let e = k f in h.0 (omega (arith, e, z))
     go false z = h.0 z
 
+-- the end of the innermost frame by name keeps frames with locks off those under the others
 without_under : (n : ℕ) (fs : List Frame) → Under fs → Under (without n fs)
 without_under n [] h = h
 without_under n (f ∷ fs) h = go (f.name == n)
@@ -178,15 +186,18 @@ without_under n (f ∷ fs) h = go (f.name == n)
     go true = h.1
     go false = h
 
+-- the class of an interrupt is at least 3
 pub interrupt_high : (c : ℕ) → list_any (λ k. k == c) interrupt_classes ≡ true → 3 ≤ c
 interrupt_high zero h = cc
 interrupt_high (suc zero) h = cc
 interrupt_high (suc (suc zero)) h = cc
 interrupt_high (suc (suc (suc c))) h = omega arith
 
+-- a processor that may begin a threaded DPC is at APC_LEVEL or below
 pub threaded_low : (x : Own) → may_threaded x ≡ true → level_at x ≤ 1
 threaded_low x h = let z : level_at x ≡ 0 = eqb-true (level_at x) 0 (both (level_at x == 0) _ h).0 in omega (arith, z)
 
+-- an event of a processor leaves no lock or spin under a frame of its own part that is no interrupt
 pub under_after : (s : Script) (p : CpuNo) (x : Own) (l : Lanes) (n : ℕ) (due : Option ℕ) (w : What) (gs : List Frame) →
     (is_next w ≡ true → Known s p x l w) → (level_at x ≤ 1 → Each Clear gs) → Under gs → Under (own_after n due w gs)
 under_after s p x l n due (Begin (Int c) from) gs k low h =
@@ -201,14 +212,17 @@ under_after s p x l n due w gs k low h = h
 
 -- ---- of a thread's part under its innermost frame
 
+-- a change by name leaves the frames under the innermost one
 named_tail : (n : ℕ) (g : Frame → Frame) (fs : List Frame) → tail_of (at_name n g fs) ≡ tail_of fs
 named_tail n g [] = refl
 named_tail n g (f ∷ fs) = refl
 
+-- what holds of each frame holds of each under the innermost one
 tail_each : (P : Frame → Type 0) (fs : List Frame) → Each P fs → Each P (tail_of fs)
 tail_each P [] h = tt
 tail_each P (f ∷ fs) h = h.1
 
+-- the end of a thread's innermost frame leaves the frames under the innermost clear of locks and spins
 end_tail : (n : ℕ) (fs : List Frame) → Each Clear (tail_of fs) → Each Clear (tail_of (end_on_thread n fs))
 end_tail n [] h = h
 end_tail n (f ∷ fs) h = go (f.name == n) (is_base_body f.body)
@@ -218,10 +232,12 @@ end_tail n (f ∷ fs) h = go (f.name == n) (is_base_body f.body)
     go true false = tail_each Clear fs h
     go false c = h
 
+-- a switch to a thread leaves the frames under its innermost one clear of locks and spins
 switched_tail : (n : ℕ) (t : ThreadNo) (st : Option ℕ) (fs : List Frame) → Each Clear (tail_of fs) → Each Clear (tail_of (switched_to n t st fs))
 switched_tail n t st [] h = tt
 switched_tail n t st (f ∷ fs) h = h
 
+-- after a flush the frames under the innermost one are clear, if all frames were
 flushed_tail : (n : ℕ) (a : ApcNo) (o : Option RoutineNo) (fs : List Frame) → Each Clear fs → Each Clear (tail_of (flushed n a o fs))
 flushed_tail n a None fs h = tail_each Clear fs h
 flushed_tail n a (Some r) fs h = h
@@ -232,6 +248,7 @@ begins_thread (Begin (Apc a) from) = true
 begins_thread (Flush a from) = true
 begins_thread w = false
 
+-- an event leaves the frames under a thread's innermost one without locks and spins, if it found them so
 pub tail_after : (s : Script) (n : ℕ) (due : Option ℕ) (w : What) (fs : List Frame) → (begins_thread w ≡ true → Each Clear fs) → Each Clear (tail_of fs) →
     Each Clear (tail_of (thread_after s n due w fs))
 tail_after s n due (Switch t st) fs k h = switched_tail n t st fs h
@@ -247,6 +264,7 @@ tail_after s n due w fs k h = h
 
 -- ---- where the own part has a frame, the thread's part stays
 
+-- a change by name leaves frames as they were where none has the name
 pub elsewhere : (n : ℕ) (g : Frame → Frame) (fs : List Frame) → NotAmong n fs → at_name n g fs ≡ fs
 elsewhere n g [] h = refl
 elsewhere n g (f ∷ fs) h = go (f.name == n) refl
@@ -255,6 +273,7 @@ elsewhere n g (f ∷ fs) h = go (f.name == n) refl
     go true e = absurd (h.0 (eqb-true f.name n e))
     go false e = refl
 
+-- where the innermost frame has the name, the own part is empty or no frame of the thread's part has it
 pub own_named : (x : Own) (n m : ℕ) (i : Frame) (fs : List Frame) → innermost x.frames ≡ Some i → n ≡ i.name → Named m x.frames.own fs →
     (is_null x.frames.own ≡ true) ⊎ NotAmong n fs
 own_named x n m i fs inner named d = go x.frames.own refl d.apart
@@ -267,10 +286,12 @@ own_named x n m i fs inner named d = go x.frames.own refl d.apart
         let same : g ≡ i = cc in
         inr (subst (λ (j : ℕ). NotAmong j fs) (ap (λ (z : Frame). z.name) same ∙ sym named) a.0)
 
+-- an empty own part has no frame under which the thread's part must hold no lock
 pub over_null : (gs fs : List Frame) → is_null gs ≡ true → Over gs fs
 over_null [] fs h = tt
 over_null (g ∷ gs) fs h = cc
 
+-- a change by name of the own part that keeps base levels leaves the thread's part clear under it
 over_named : (n : ℕ) (g : Frame → Frame) (gs fs : List Frame) → ((f : Frame) → base_of (g f) ≡ base_of f) → Over gs fs → Over (at_name n g gs) fs
 over_named n g [] fs k h = h
 over_named n g (f ∷ gs) fs k h = (go (f.name == n), h.1)
@@ -279,10 +300,12 @@ over_named n g (f ∷ gs) fs k h = (go (f.name == n), h.1)
     go true z = let e = k f in h.0 (omega (arith, e, z))
     go false z = h.0 z
 
+-- an empty list of frames stays empty at a change by name
 named_null : (n : ℕ) (g : Frame → Frame) (fs : List Frame) → is_null fs ≡ true → is_null (at_name n g fs) ≡ true
 named_null n g [] h = refl
 named_null n g (f ∷ fs) h = cc
 
+-- an empty list of frames stays empty at an end by name
 without_null : (n : ℕ) (fs : List Frame) → is_null fs ≡ true → is_null (without n fs) ≡ true
 without_null n [] h = refl
 without_null n (f ∷ fs) h = cc
@@ -296,6 +319,7 @@ over_both x n m f g i gs fs o inner named d k h = go (own_named x n m i fs inner
     go (inl z) = over_null (at_name n f gs) (at_name n g fs) (named_null n f gs (subst (λ (hs : List Frame). is_null hs ≡ true) o z))
     go (inr z) = subst (Over (at_name n f gs)) (sym (elsewhere n g fs z)) (over_named n f gs fs k h)
 
+-- a change of the innermost frame by name keeps the thread's part clear under the own part's frames
 pub over_thread : (x : Own) (n m : ℕ) (g : Frame → Frame) (i : Frame) (gs fs : List Frame) → x.frames.own ≡ gs → innermost x.frames ≡ Some i → n ≡ i.name →
     Named m x.frames.own fs → Over gs fs → Over gs (at_name n g fs)
 over_thread x n m g i gs fs o inner named d h = go (own_named x n m i fs inner named d)
@@ -304,6 +328,7 @@ over_thread x n m g i gs fs o inner named d h = go (own_named x n m i fs inner n
     go (inl z) = over_null gs (at_name n g fs) (subst (λ (hs : List Frame). is_null hs ≡ true) o z)
     go (inr z) = subst (Over gs) (sym (elsewhere n g fs z)) h
 
+-- the end of the innermost frame keeps the thread's part clear under the own part's frames
 pub over_end : (x : Own) (n m : ℕ) (i : Frame) (gs fs : List Frame) → x.frames.own ≡ gs → innermost x.frames ≡ Some i → n ≡ i.name → Named m x.frames.own fs →
     Over gs fs → Over (without n gs) (end_on_thread n fs)
 over_end x n m i gs fs o inner named d h = go (own_named x n m i fs inner named d)

@@ -65,10 +65,12 @@ pub record KeepsRegions (g : Frame → Frame) : Type 0 where
   pub guard : (f : Frame) → (g f).guard ≡ f.guard
   pub body : (f : Frame) → (g f).body ≡ f.body
 
+-- an accepted yield keeps a frame's level, its regions and what runs in it
 yield_keeps : (due : Option ℕ) → KeepsRegions (called due Yield Done)
 yield_keeps due =
     record { level = λ f. refl; crit = λ f. refl; guard = λ f. refl; body = λ f. refl }
 
+-- a wait or delay that blocks keeps its frame's level, its regions and what runs in it
 wait_keeps : (due : Option ℕ) (c : Command) → is_wait c ≡ true → KeepsRegions (called due c Blocked)
 wait_keeps due (StartWait m a) h =
     record { level = λ f. refl; crit = λ f. refl; guard = λ f. refl; body = λ f. refl }
@@ -76,10 +78,12 @@ wait_keeps due (Delay m a u) h =
     record { level = λ f. refl; crit = λ f. refl; guard = λ f. refl; body = λ f. refl }
 wait_keeps due c h = cc
 
+-- taking up a wait again keeps a frame's level, its regions and what runs in it
 pub rewait_keeps : (y : Reply) → KeepsRegions (rewaited y)
 rewait_keeps y =
     record { level = λ f. refl; crit = λ f. refl; guard = λ f. refl; body = λ f. refl }
 
+-- a change of a named frame that keeps levels keeps the level of the frames
 pub named_level : (n : ℕ) (g : Frame → Frame) (fs : List Frame) → KeepsRegions g → level_of (at_name n g fs) ≡ level_of fs
 named_level n g [] k = refl
 named_level n g (f ∷ fs) k = go (f.name == n)
@@ -88,6 +92,7 @@ named_level n g (f ∷ fs) k = go (f.name == n)
     go true = k.level f
     go false = refl
 
+-- a change of a named frame that keeps regions keeps the regions of the frames
 pub named_regions : (n : ℕ) (g : Frame → Frame) (fs : List Frame) → KeepsRegions g → regions_of (at_name n g fs) ≡ regions_of fs
 named_regions n g [] k = refl
 named_regions n g (f ∷ fs) k = go (f.name == n)
@@ -120,10 +125,12 @@ halts (Call f c y) = stops c y
 halts (Rewait f y) = is_blocked y
 halts w = false
 
+-- a change made only under a condition leaves the doing, if the change itself does
 if_keeps : (b : Bool) (x y : ThreadFacts) → y.doing ≡ x.doing → (if b then y else x).doing ≡ x.doing
 if_keeps true x y h = h
 if_keeps false x y h = refl
 
+-- a wait that is answered without blocking leaves the thread's doing
 answered_doing : (st : ℕ) (m : Mode) (a delay : Bool) (x : ThreadFacts) → (answered st m a delay x).doing ≡ x.doing
 answered_doing st m a delay x =
     go (st == satisfied) delay (st == alerted) ((st == user_apc) && a)
@@ -140,12 +147,14 @@ answered_doing st m a delay x =
     go false d false true = refl
     go false d false false = refl
 
+-- a wait that doesn't block leaves the thread's doing
 waited_doing : (n : ℕ) (r : Regions) (level : ℕ) (m : Mode) (a delay : Bool) (y : Reply) (x : ThreadFacts) → is_blocked y ≡ false →
     (waited n r level m a delay y x).doing ≡ x.doing
 waited_doing n r level m a delay (Status st) x h = answered_doing st m a delay x
 waited_doing n r level m a delay Blocked x h = cc
 waited_doing n r level m a delay y x h = refl
 
+-- a test of an alert leaves the thread's doing
 tested_doing : (m : Mode) (x : ThreadFacts) → (alert_tested m x).doing ≡ x.doing
 tested_doing m x = go (is_alerted m x) (is_user m && has_user x.apcs)
   where
@@ -158,15 +167,18 @@ tested_doing m x = go (is_alerted m x) (is_user m && has_user x.apcs)
     go false true = refl
     go false false = refl
 
+-- an APC that begins leaves the thread's doing
 taken_doing : (k : ApcKind) (a : ApcNo) (x : ThreadFacts) → (apc_taken k a x).doing ≡ x.doing
 taken_doing UserApc a x = refl
 taken_doing k a x = refl
 
+-- the end of a frame leaves the thread's doing
 ended_doing : (b : Option Body) (x : ThreadFacts) → (frame_ended b x).doing ≡ x.doing
 ended_doing (Some (OnBase t)) x = refl
 ended_doing (Some (OnApc a UserApc)) x = tested_doing UserMode x
 ended_doing b x = refl
 
+-- a wait that is taken up again and doesn't block leaves the thread's doing
 again_doing : (n : ℕ) (r : Regions) (level : ℕ) (o : Option Again) (y : Reply) (x : ThreadFacts) → is_blocked y ≡ false → (waited_again n r level o y x).doing
     ≡ x.doing
 again_doing n r level None y x h = refl
@@ -185,10 +197,12 @@ made_doing s n st (Begin (Apc a) from) x h k = taken_doing (kind_of s a) a x
 made_doing s n st (End f) x h k = ended_doing st.body x
 made_doing s n st w x h k = refl
 
+-- where the condition is false, a choice of no thread or another gives the other
 pub if_none : (b : Bool) (r : Option ThreadNo) → b ≡ false → (if b then None else r) ≡ r
 if_none true r h = cc
 if_none false r h = refl
 
+-- an event that neither stops the running thread nor switches leaves it running
 runs_still : (w : What) (r : Option ThreadNo) → halts w ≡ false → is_switch w ≡ false → running_after w r ≡ r
 runs_still (Switch t status) r h k = cc
 runs_still (Gone t) r h k = cc
@@ -196,9 +210,11 @@ runs_still (Call f c y) r h k = if_none (stops c y) r h
 runs_still (Rewait f y) r h k = if_none (is_blocked y) r h
 runs_still w r h k = refl
 
+-- where no thread runs, no given thread is the one that runs
 none_runs : (t : ThreadNo) → ◌≡◌ {A = Option ThreadNo} None (Some t) → ⊥
 none_runs t h = cc
 
+-- a blocked thread that doesn't run has facts that agree with the level and regions of its frames
 blocked_doing : (n : ℕ) (r : Regions) (level : ℕ) (m : Mode) (a d : Bool) (fs : List Frame) (runs : Type 0) → (runs → ⊥) → level ≡ level_of fs → r
     ≡ regions_of fs → Says (IsBlocked (record { event = n; mode = m; alertable = a; delay = d; level = level; regions = r })) fs runs
 blocked_doing n r level m a d fs runs h k l = (h, k, l)
@@ -298,6 +314,7 @@ facts_made s t e past b h =
     ap (λ (c : Bool). named_facts s t (length past) e.what
     (if c then made_facts s (length past) (stand_at s e.cpu past) e.what (facts s t past) else facts s t past)) h
 
+-- case: the event doesn't name the thread; its facts still agree with its frames
 agrees_unnamed : (s : Script) (limit : ℕ) (t : ThreadNo) (e : Event) (past : List Event) → is_by e t ≡ false → IsLegal s limit e past → Agrees s t past →
     Agrees s t (e ∷ past)
 agrees_unnamed s limit t e past b g ih =
@@ -336,6 +353,7 @@ agrees_unnamed s limit t e past b g ih =
         unnamed_by s limit (cpu_of s t) t e past e.what refl b h g (sym (running_own (cpu_of s t) e past h) ∙ r)
     back false h r = rw h at r
 
+-- case: the event names the thread; its facts still agree with its frames
 agrees_named : (s : Script) (limit : ℕ) (t : ThreadNo) (e : Event) (past : List Event) → is_by e t ≡ true → IsLegal s limit e past → IsRun s limit past →
     Agrees s t past → Agrees s t (e ∷ past)
 agrees_named s limit t e past b g r ih =
@@ -408,6 +426,7 @@ agrees_named s limit t e past b g r ih =
         (thread_frames s (cpu_of s t) t (e ∷ past)) (running_after e.what (running (cpu_of s t) past) ≡ Some t) (running (cpu_of s t) (e ∷ past) ≡ Some t)
         (sym frames) (λ h. running_own (cpu_of s t) e past own ∙ h) (λ h. sym (running_own (cpu_of s t) e past own) ∙ h) said
 
+-- a legal event of a run keeps the facts of a thread in agreement with its frames
 agrees_after : (s : Script) (limit : ℕ) (t : ThreadNo) (e : Event) (past : List Event) (b : Bool) → is_by e t ≡ b → IsLegal s limit e past →
     IsRun s limit past → Agrees s t past → Agrees s t (e ∷ past)
 agrees_after s limit t e past true b g r ih = agrees_named s limit t e past b g r ih

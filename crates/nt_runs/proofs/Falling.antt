@@ -7,14 +7,17 @@ use Rattle.nt_event.proofs.Elements.{contains_cases, contains_none, found_contai
 use Rattle.nt_runs.specs.Falling.{Falls}
 use Rattle.nt_runs.proofs.Pending.{cond_none, find_reverse, or_none_parts}
 
+-- a truth value is not both false and true
 pub false_true : {A : Type 0} (b : Bool) → b ≡ false → b ≡ true → A
 false_true b h k = cc
 
 module _ (A : Type 0) (number : A → ℕ) where
+  -- numbers that fall from a bound fall from each greater bound
   pub falls_from : (n m : ℕ) (xs : List A) → n ≤ m → Falls number n xs → Falls number m xs
   falls_from n m [] h f = tt
   falls_from n m (x ∷ xs) h f = let k = f.0 in (omega (arith, h, k), f.1)
 
+  -- a filtered list of falling numbers falls
   pub falls_kept : (n : ℕ) (test : A → Bool) (xs : List A) → Falls number n xs → Falls number n (filter test xs)
   falls_kept n test [] f = tt
   falls_kept n test (x ∷ xs) f = go (test x) (falls_kept (number x) test xs f.1)
@@ -23,6 +26,7 @@ module _ (A : Type 0) (number : A → ℕ) where
       go true k = (f.0, k)
       go false k = let l = f.0 in falls_from (number x) n (filter test xs) (omega (arith, l)) k
 
+  -- each number in a falling list is below its bound
   pub falls_below : (n : ℕ) (xs : List A) (y : A) → Falls number n xs → Contains xs y → (number y) < n
   falls_below n [] y f h = contains_none y h
   falls_below n (x ∷ xs) y f h =
@@ -32,6 +36,7 @@ module _ (A : Type 0) (number : A → ℕ) where
         | inr there ↦ let k = falls_below (number x) xs y f.1 there in omega (arith, k, l)
       ]
 
+  -- the first item found in a falling list has the greatest number of those that pass the test
   pub found_greatest : (test : A → Bool) (n : ℕ) (xs : List A) (x y : A) → Falls number n xs → find test xs ≡ Some x → Contains xs y → test y ≡ true →
       (number y) ≤ (number x)
   found_greatest test n [] x y f h c t = cc
@@ -53,6 +58,7 @@ module _ (A : Type 0) (number : A → ℕ) where
             | inr there ↦ ih k there
           ]
 
+  -- where a search finds nothing, no item of the list passes the test
   pub none_found : (test : A → Bool) (xs : List A) (y : A) → find test xs ≡ None → Contains xs y → test y ≡ false
   none_found test [] y h c = contains_none y c
   none_found test (z ∷ zs) y h c = go (test z) refl h (λ k i. none_found test zs y k i)
@@ -65,6 +71,7 @@ module _ (A : Type 0) (number : A → ℕ) where
             | inr there ↦ ih k there
           ]
 
+  -- where a search from the end finds nothing, no item of the list passes the test
   pub none_last : (test : A → Bool) (xs : List A) (y : A) → find test (reverse xs) ≡ None → Contains xs y → test y ≡ false
   none_last test [] y h c = contains_none y c
   none_last test (z ∷ zs) y h c =
@@ -78,6 +85,7 @@ module _ (A : Type 0) (number : A → ℕ) where
   cond_some true z x h = cc
   cond_some false z x h = cc
 
+  -- the first item found from the end of a falling list has the least number of those that pass the test
   pub last_least : (test : A → Bool) (n : ℕ) (xs : List A) (x y : A) → Falls number n xs → find test (reverse xs) ≡ Some x → Contains xs y → test y ≡ true →
       (number x) ≤ (number y)
   last_least test n [] x y f h c t = cc

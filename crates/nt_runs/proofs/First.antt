@@ -17,6 +17,7 @@ use Rattle.nt_event.proofs.Elements.{found_contains, reversed_contains}
 use Rattle.nt_runs.specs.Falling.{Falls}
 use Rattle.nt_runs.proofs.Falling.{falls_from, falls_kept, found_greatest, last_least, none_found, none_last}
 
+-- dropping inserts from a queue leaves their numbers falling
 dropped_falls : (m : ℕ) (p by : CpuNo) (w : What) (o : Option DpcNo) (objects : List ObjectState) (xs : List Insert) → Falls (λ (x : Insert). x.number) m xs →
     Falls (λ (x : Insert). x.number) m (drop_insert p by w o objects xs)
 dropped_falls m p by w None objects xs f = f
@@ -26,6 +27,7 @@ dropped_falls m p by w (Some d) objects xs f = go (is_queue (left_queue by w (ob
     go true = falls_kept Insert (λ (x : Insert). x.number) m (λ x. not (is_of_dpc d x)) xs f
     go false = f
 
+-- adding the newest insert to a queue leaves the numbers falling
 added_falls : (s : Script) (p : CpuNo) (n m : ℕ) (by : CpuNo) (o : Option DpcNo) (objects : List ObjectState) (xs : List Insert) → n < m →
     Falls (λ (x : Insert). x.number) n xs →
     Falls (λ (x : Insert). x.number) m (add_insert s p n by o objects xs)
@@ -46,6 +48,7 @@ pending_falls s p (e ∷ past) =
 
 -- ---- the first of a part
 
+-- the insert read as first of a part is the first by importance and number, if the numbers fall
 first_reads : (part : Part) (n : ℕ) (xs : List Insert) → Falls (λ (x : Insert). x.number) n xs → IsFirst part xs (first_dpc part xs)
 first_reads part n xs f = go (find (is_high_in part) xs) refl
   where
@@ -68,5 +71,6 @@ first_reads part n xs f = go (find (is_high_in part) xs) refl
         let b = both x.high (is_in part x) found.1 in
         (found.0, b.1, inl (b.0, λ y c t. found_greatest Insert (λ (x : Insert). x.number) (is_high_in part) n xs x y f e c t))
 
+-- the DPC picked from a queue's part is the first by importance and number, or the part is empty
 pub first_is_first : (s : Script) (p : CpuNo) (past : List Event) (part : Part) → IsFirst part (pending s p past) (first_dpc part (pending s p past))
 first_is_first s p past part = first_reads part (length past) (pending s p past) (pending_falls s p past)

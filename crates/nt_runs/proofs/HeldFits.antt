@@ -36,10 +36,12 @@ AreDeclared s (h ∷ hs) = (has_lock s h.lock ≡ true) × AreDeclared s hs
 abbrev Declares : Script → Frame → Type 0
 Declares s f = AreDeclared s f.held
 
+-- without the lock acquired last the held locks are still declared
 tail_declared : (s : Script) (hs : List Held) → AreDeclared s hs → AreDeclared s (tail_of hs)
 tail_declared s [] h = tt
 tail_declared s (x ∷ xs) h = h.1
 
+-- in a script that fits a known call leaves its frame with declared locks alone
 called_declared : (s : Script) (p : CpuNo) (x : Own) (l : Lanes) (n : ℕ) (due : Option ℕ) (c : Command) (y : Reply) → fits s ≡ true →
     (k : KnownCall s p x l n c y) → Declares s k.frame → Declares s (called due c y k.frame)
 called_declared s p x l n due (Acquire a) Done f k h = (next_fits s p k.frame (Acquire a) f k.command, h)
@@ -47,10 +49,12 @@ called_declared s p x l n due (Acquire a) Spin f k h = h
 called_declared s p x l n due (Unlock a) Done f k h = tail_declared s k.frame.held h
 called_declared s p x l n due c y f k h = h
 
+-- a frame that comes back from a wait holds declared locks, if it did before
 resumed_declared : (s : Script) (st : Option ℕ) (f : Frame) → Declares s f → Declares s (resumed st f)
 resumed_declared s None f h = h
 resumed_declared s (Some x) f h = h
 
+-- in a script that fits each change of a frame keeps its held locks declared
 declares_kept : (s : Script) (p : CpuNo) → fits s ≡ true → Kept s p (Declares s)
 declares_kept s p f = record {
   base = λ n t. tt;
@@ -64,6 +68,7 @@ declares_kept s p f = record {
   called = λ x l n due c y k h. called_declared s p x l n due c y f k h;
 }
 
+-- a known event leaves the locks held on the own part declared
 own_after_declared : (s : Script) (p : CpuNo) (x : Own) (l : Lanes) (n : ℕ) (due : Option ℕ) (w : What) (gs : List Frame) → fits s ≡ true →
     x.frames.own ≡ gs → (is_next w ≡ true → Known s p x l w) → Each (Declares s) gs → Each (Declares s) (own_after n due w gs)
 own_after_declared s p x l n due (Begin (Int c) from) gs f o k h = (tt, h)
@@ -77,6 +82,7 @@ own_after_declared s p x l n due (Free i c) gs f o k h =
 own_after_declared s p x l n due (End i) gs f o k h = without_each (Declares s) i gs h
 own_after_declared s p x l n due w gs f o k h = h
 
+-- in a run of a script that fits the locks held on the own part are declared
 own_declared : (s : Script) (limit : ℕ) (p : CpuNo) (past : List Event) → fits s ≡ true → IsRun s limit past → Each (Declares s) (own_frames p past)
 own_declared s limit p [] f r = tt
 own_declared s limit p (e ∷ past) f r = go (is_of e p) refl (own_declared s limit p past f r.1)
@@ -88,6 +94,7 @@ own_declared s limit p (e ∷ past) f r = go (is_of e p) refl (own_declared s li
         (λ n. known_of s limit p e past o r.0 e.what refl n) h
     go false o h = h
 
+-- where the innermost frame holds a lock, its last acquired one is declared
 first_declared : (s : Script) (fs : List Frame) (f : Frame) (a : Held) → Each (Declares s) fs → head_of fs ≡ Some f → head_of f.held ≡ Some a →
     has_lock s a.lock ≡ true
 first_declared s [] f a h e q = cc

@@ -15,10 +15,12 @@ AllKept n (h ∷ hs) = (n ≤ h.kept) × AllKept n hs
 abbrev pub Floor : ℕ → Frame → Type 0
 Floor n f = (n ≤ kept_in f) × AllKept n f.held
 
+-- without the lock acquired last, the levels kept with the locks still aren't below the bound
 pub kept_tail : (n : ℕ) (hs : List Held) → AllKept n hs → AllKept n (tail_of hs)
 kept_tail n [] h = tt
 kept_tail n (x ∷ xs) h = h.1
 
+-- the level kept with the lock acquired last, or else the given level, isn't below the bound
 pub kept_head : (n level : ℕ) (hs : List Held) → n ≤ level → AllKept n hs → n ≤ option_map_or (λ h. h.kept) (head_of hs) level
 kept_head n level [] a h = a
 kept_head n level (x ∷ xs) a h = h.0
@@ -31,6 +33,7 @@ moved_floor n (Spins k) f level a b c h = (a, h.0, h.1)
 moved_floor n (Frees k) f level a b c h = let z = kept_head n f.level f.held c h.1 in (z, z, kept_tail n f.held h.1)
 moved_floor n NoMove f level a b c h = (b, b, h.1)
 
+-- a change to a level not below the bound leaves the level kept with the next lock not below it
 spin_floor : (n level new : ℕ) (o : Option Held) → n ≤ new → n ≤ option_map_or (λ h. h.kept) o level → n ≤ option_map_or (λ h. h.kept) o new
 spin_floor n level new None a h = a
 spin_floor n level new (Some x) a h = h

@@ -202,19 +202,23 @@ Known s p x l Rest = KnownRest s p x l
 
 -- ---- what must be done
 
+-- below DISPATCH_LEVEL the first DPC of the queue, if there is one, is known
 begin_known : (s : Script) (p : CpuNo) (x : Own) (l : Lanes) → level_at x < 2 → Holds (Known s p x l) (begin_first OrdinaryPart (queue_at l p))
 begin_known s p x l low =
     holds_map (Known s p x l) (begin_dpc OrdinaryPart) (first_dpc OrdinaryPart (queue_at l p).pending)
     (λ i e. (low, record { insert = i; first = e; dpc = refl; number = refl }))
 
+-- an option whose image is none is none
 map_none : {A B : Type 0} (f : A → B) (o : Option A) → option_map f o ≡ None → o ≡ None
 map_none f None h = refl
 map_none f (Some x) h = cc
 
+-- where a first option, or else a second, is none, both are none
 or_none : {A : Type 0} (a b : Option A) → option_or a b ≡ None → (a ≡ None) × (b ≡ None)
 or_none None b h = (refl, h)
 or_none (Some x) b h = cc
 
+-- the event of the drain of timers and DPCs is known below DISPATCH_LEVEL
 drain_known : (s : Script) (p : CpuNo) (x : Own) (l : Lanes) → level_at x < 2 → Known s p x l (drain_event (stand_in p x) l)
 drain_known s p x l low =
     let keys : Option What = option_map expire_key (when x.sweep (first_due l.timers)) in
@@ -230,12 +234,14 @@ drain_known s p x l low =
       map_none (begin_dpc OrdinaryPart) (first_dpc OrdinaryPart (queue_at l p).pending) k.1,
     ))
 
+-- the event that serves the APC class is known where APCs may be delivered
 apcs_known : (s : Script) (p : CpuNo) (x : Own) (l : Lanes) → may_apcs x ≡ true → Known s p x l (apcs_event (stand_in p x) l)
 apcs_known s p x l may =
     holds_else (Known s p x l) (option_map begin_apc (Deliverable x l)) (Clean 1)
     (holds_map (Known s p x l) begin_apc (Deliverable x l) (λ k e. inl (may, record { pick = k; first = e; apc = refl; number = refl })))
     (λ e. inr (inl (refl, may, map_none begin_apc (Deliverable x l) e)))
 
+-- the event that serves the threaded class is known where threaded DPCs may begin
 threaded_known : (s : Script) (p : CpuNo) (x : Own) (l : Lanes) → may_threaded x ≡ true → Known s p x l (threaded_event (stand_in p x) l)
 threaded_known s p x l may =
     holds_else (Known s p x l) (begin_first ThreadedPart (queue_at l p)) (Clean 0)
@@ -247,6 +253,7 @@ threaded_known s p x l may =
 abbrev pub Good : Script → CpuNo → Own → Lanes → Task → Type 0
 Good s p x l t = Holds (Known s p x l) (task_event s (stand_in p x) l t)
 
+-- the event of an interrupt that is due is known
 interrupt_known : (s : Script) (p : CpuNo) (x : Own) (l : Lanes) → Holds (Good s p x l) (interrupt_task x)
 interrupt_known s p x l =
     holds_map (Good s p x l) (λ c. Alone (Begin (Int c) (value_at x.seen c - 1))) (find (may_interrupt x) interrupt_classes)
@@ -266,6 +273,7 @@ interrupt_known s p x l =
         go true e ih = let n : k ≡ c = cc in rw (eq-eqb k c n) refl
         go false e ih = or_yes (k == c) (list_any (λ k. k == c) cs) (ih e)
 
+-- the event of what must be done first is known
 must_known : (s : Script) (p : CpuNo) (x : Own) (l : Lanes) → Holds (Good s p x l) (must_task x)
 must_known s p x l =
     holds_or (Good s p x l) (fire_task x) _ (holds_map (Good s p x l) (λ d. Shared (FireJob d)) x.fire (λ d e. (e, refl)))
@@ -279,17 +287,21 @@ must_known s p x l =
 
 -- ---- the innermost frame
 
+-- where the innermost frame goes on, its name is the one at which its processor stands
 frame_stands : (p : CpuNo) (x : Own) (f : Frame) → GoesOn x f → (stand_in p x).frame ≡ f.name
 frame_stands p x f g = ap (λ (o : Option Frame). option_map_or (λ f. f.name) o 0) g.inner
 
+-- where the innermost frame goes on, the wait to take up where the processor stands is the frame's
 pub again_known : (p : CpuNo) (x : Own) (f : Frame) → GoesOn x f → (stand_in p x).again ≡ f.again
 again_known p x f g = again_stands p x.frames x.sweep f g.inner
 
+-- the event that takes up a wait again is known
 rewait_known : (s : Script) (p : CpuNo) (x : Own) (l : Lanes) (f : Frame) → GoesOn x f → Good s p x l (Shared RewaitJob)
 rewait_known s p x l f g =
     holds_map (Known s p x l) (λ w. Rewait (stand_in p x).frame (rewait_reply (stand_in p x) l w)) (stand_in p x).again
     (λ w e. record { frame = f; goes_on = g; name = frame_stands p x f g; wait = w; again = sym (again_known p x f g) ∙ e; reply = refl })
 
+-- the event of the rundown of a leaving frame is known
 rundown_known : (s : Script) (p : CpuNo) (x : Own) (l : Lanes) (f : Frame) → GoesOn x f → f.leaving ≡ true → Good s p x l (Shared RundownJob)
 rundown_known s p x l f g leaving =
     holds_map (Known s p x l) (rundown_event l) x.frames.running
@@ -325,11 +337,13 @@ pub record Calls (s : Script) (p : CpuNo) (x : Own) (f : Frame) (c : Command) : 
   pub leaving : f.leaving ≡ false
   pub command : next_command s p f ≡ Some c
 
+-- a call is known by its frame's name and its reply, with what else is known of it
 known_call : (s : Script) (p : CpuNo) (x : Own) (l : Lanes) (f : Frame) (c : Command) (n : ℕ) (y : Reply) → Calls s p x f c → n ≡ f.name → y
     ≡ reply_or (refusal_in x f c) (reply s (stand_in p x) l c) → KnownCall s p x l n c y
 known_call s p x l f c n y k e r =
     record { frame = f; goes_on = k.goes_on; name = e; again = k.again; leaving = k.leaving; command = k.command; reply = r }
 
+-- the event of an accepted ToUser is known
 touser_known : (s : Script) (p : CpuNo) (x : Own) (l : Lanes) (f : Frame) → Calls s p x f ToUser → refusal_in x f ToUser ≡ None →
     Good s p x l (Shared ToUserJob)
 touser_known s p x l f k e =
@@ -340,6 +354,7 @@ touser_known s p x l f k e =
       record { pick = pick; first = m; apc = refl; number = refl },
     ))) (λ m. known_call s p x l f ToUser _ _ k (frame_stands p x f k.goes_on) (rw e refl))
 
+-- the event of a command is known, refused or not
 call_known : (s : Script) (p : CpuNo) (x : Own) (l : Lanes) (f : Frame) (c : Command) → Calls s p x f c → Good s p x l (call_task f c (refusal_in x f c))
 call_known s p x l f c k = go c (refusal_in x f c) refl k
   where
@@ -357,12 +372,14 @@ call_known s p x l f c k = go c (refusal_in x f c) refl k
     go ToUser None e k = touser_known s p x l f k e
     go c None e k = lane c k e (needs_lane c) refl
 
+-- the event of the innermost frame's next command, if there is one, is known
 command_known : (s : Script) (p : CpuNo) (x : Own) (l : Lanes) (f : Frame) (o : Option Command) → GoesOn x f → is_some f.again ≡ false → f.leaving ≡ false →
     next_command s p f ≡ o → Holds (Good s p x l) (command_task x f o)
 command_known s p x l f None g a b e = tt
 command_known s p x l f (Some c) g a b e =
     call_known s p x l f c (record { goes_on = g; again = a; leaving = b; command = e })
 
+-- the event that frees a lock of a frame without commands is known
 free_known : (s : Script) (p : CpuNo) (x : Own) (l : Lanes) (f : Frame) → GoesOn x f → is_some f.again ≡ false → f.leaving ≡ false →
     next_command s p f ≡ None → Holds (Good s p x l) (free_task f)
 free_known s p x l f g a b e =
@@ -379,6 +396,7 @@ free_known s p x l f g a b e =
       lock = refl;
     })
 
+-- the event in which an APC goes on to its normal routine is known
 normal_known : (s : Script) (p : CpuNo) (x : Own) (l : Lanes) (f : Frame) → GoesOn x f → next_command s p f ≡ None → head_of f.held ≡ None →
     Holds (Good s p x l) (normal_task f)
 normal_known s p x l f g e q =
@@ -386,6 +404,7 @@ normal_known s p x l f g e q =
     (λ h. let k = both f.kernel_phase
     (has_normal f.body) h in record { frame = f; goes_on = g; name = refl; kernel = k.0; normal = k.1; command = e; free = q })
 
+-- the event in which a frame ends is known
 end_known : (s : Script) (p : CpuNo) (x : Own) (l : Lanes) (f : Frame) → KnownEnd s p x f.name → GoesOn x f → Good s p x l (end_task f.name f.body)
 end_known s p x l f k g = go f.body
   where
@@ -397,14 +416,17 @@ end_known s p x l f k g = go f.body
     go (OnApc a UserApc) = subst (KnownEnd s p x) (sym (frame_stands p x f g)) k
     go b = k
 
+-- a task made under a condition is none only where the condition fails
 when_none : {A : Type 0} (t : Bool) (x : A) → when t (Some x) ≡ None → t ≡ false
 when_none true x h = cc
 when_none false x h = refl
 
+-- where the task of a command is none, there is no command
 command_none : (x : Own) (f : Frame) (o : Option Command) → command_task x f o ≡ None → o ≡ None
 command_none x f None h = refl
 command_none x f (Some c) h = cc
 
+-- the event of any task of a frame that goes on is known
 frame_known : (s : Script) (p : CpuNo) (x : Own) (l : Lanes) (f : Frame) → GoesOn x f → Holds (Good s p x l) (frame_task s p x f)
 frame_known s p x l f g =
     holds_or (Good s p x l) (rewait_task f) _ (holds_when (Good s p x l) (is_some f.again) (Some (Shared RewaitJob)) (λ h. rewait_known s p x l f g))
@@ -428,6 +450,7 @@ frame_known s p x l f g =
 
 -- ---- the next event
 
+-- a frame gives some task always, so none means that there is no frame
 then_none : (s : Script) (p : CpuNo) (x : Own) (o : Option Frame) → option_and_then (frame_task s p x) o ≡ None → o ≡ None
 then_none s p x None h = refl
 then_none s p x (Some f) h = let k = frame_has s p x f in absurd (no (frame_task s p x f) k h)
@@ -436,9 +459,11 @@ then_none s p x (Some f) h = let k = frame_has s p x f in absurd (no (frame_task
     no None k h = let e = k.1 in cc
     no (Some t) k h = cc
 
+-- a processor with no innermost frame is at PASSIVE_LEVEL
 level_none : (x : Own) → innermost x.frames ≡ None → level_at x ≡ 0
 level_none x h = ap (λ (o : Option Frame). option_map_or (λ f. f.level) o 0) h
 
+-- the event of a processor without frames and without what must be done is known
 idle_known : (s : Script) (p : CpuNo) (x : Own) (l : Lanes) → must_task x ≡ None → innermost x.frames ≡ None →
     Holds (Known s p x l) (idle_event s (stand_in p x) l)
 idle_known s p x l quiet none =
@@ -447,6 +472,7 @@ idle_known s p x l quiet none =
     (λ e. holds_when (Known s p x l) (is_null (ready s p l)) (Some Rest)
     (λ h. record { quiet = quiet; none = none; empty = map_none (begin_dpc OrdinaryPart) (first_dpc OrdinaryPart (queue_at l p).pending) e; unready = h }))
 
+-- the event of a processor's next task, if it comes, is known by the tests that chose it
 pub task_known : (s : Script) (p : CpuNo) (x : Own) (l : Lanes) → Holds (Good s p x l) (task s p x)
 task_known s p x l =
     holds_or (Good s p x l) (must_task x) _ (must_known s p x l)

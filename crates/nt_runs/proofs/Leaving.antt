@@ -61,10 +61,12 @@ base_leaving (f ∷ (g ∷ fs)) = base_leaving (g ∷ fs)
 
 -- ---- frames
 
+-- a change of the innermost frame that keeps its leaving mark keeps the mark of the base frame
 head_leaving : (g : Frame → Frame) (f : Frame) (fs : List Frame) → (g f).leaving ≡ f.leaving → base_leaving (g f ∷ fs) ≡ base_leaving (f ∷ fs)
 head_leaving g f [] k = k
 head_leaving g f (x ∷ fs) k = refl
 
+-- a change by name that keeps leaving marks keeps the mark of the base frame
 named_leaving : (n : ℕ) (g : Frame → Frame) (fs : List Frame) → Keeps g → base_leaving (at_name n g fs) ≡ base_leaving fs
 named_leaving n g [] k = refl
 named_leaving n g (f ∷ fs) k = go (f.name == n)
@@ -73,14 +75,17 @@ named_leaving n g (f ∷ fs) k = go (f.name == n)
     go true = head_leaving g f fs (k.leaving f)
     go false = refl
 
+-- a frame put on a thread with a base frame leaves the mark of the base frame
 pushed_leaving : (t : ThreadNo) (f : Frame) (fs : List Frame) → HasBase t fs → base_leaving (f ∷ fs) ≡ base_leaving fs
 pushed_leaving t f [] h = absurd h
 pushed_leaving t f (g ∷ fs) h = refl
 
+-- a flushed APC leaves the leaving mark of the base frame
 flushed_leaving : (t : ThreadNo) (n : ℕ) (a : ApcNo) (o : Option RoutineNo) (fs : List Frame) → HasBase t fs → base_leaving (flushed n a o fs) ≡ base_leaving fs
 flushed_leaving t n a None fs h = refl
 flushed_leaving t n a (Some r) fs h = pushed_leaving t (new_frame n (OnRundown a)) fs h
 
+-- a switch to a thread leaves the leaving mark of its base frame
 switched_leaving : (n : ℕ) (t : ThreadNo) (st : Option ℕ) (fs : List Frame) → base_leaving (switched_to n t st fs) ≡ base_leaving fs
 switched_leaving n t st [] = refl
 switched_leaving n t st (f ∷ fs) = head_leaving (resumed st) f fs ((resumed_keeps st).leaving f)
@@ -115,6 +120,7 @@ own_end_leaving (OnBase t) x h = cc
 own_end_leaving (OnApc a k) x h = cc
 own_end_leaving b x h = refl
 
+-- the end of a frame leaves a thread's frames as they were where none has its name
 pub end_elsewhere : (n : ℕ) (fs : List Frame) → NotAmong n fs → end_on_thread n fs ≡ fs
 end_elsewhere n [] h = refl
 end_elsewhere n (f ∷ fs) h = go (f.name == n) refl
@@ -173,6 +179,7 @@ made_leaves s p o l t m n due (Begin (Dpc c) from) fs x k own d e b h = h
 made_leaves s p o l t m n due (Begin (Threaded c) from) fs x k own d e b h = h
 made_leaves s p o l t m n due w fs x k own d e b h = h
 
+-- case: the event names the thread; its fact of leaving still agrees with its base frame
 leaves_named : (s : Script) (limit : ℕ) (t : ThreadNo) (e : Event) (past : List Event) → is_by e t ≡ true → IsLegal s limit e past → IsRun s limit past →
     LeavesAs s t past → LeavesAs s t (e ∷ past)
 leaves_named s limit t e past b g r ih = after ∙ (facts_named s t (length past) e.what made ∙ (made_so e.what refl ∙ ap base_leaving (sym frames)))
@@ -222,6 +229,7 @@ leaves_named s limit t e past b g r ih = after ∙ (facts_named s t (length past
         ≡ base_leaving (thread_after s (length past) (due_of e.what (time past)) w (thread_frames s (cpu_of s t) t past))) (sym k) ih
     made_so w k = next_so (ap is_next k)
 
+-- case: the event doesn't name the thread; its fact of leaving still agrees with its base frame
 leaves_unnamed : (s : Script) (t : ThreadNo) (e : Event) (past : List Event) → is_by e t ≡ false → LeavesAs s t past → LeavesAs s t (e ∷ past)
 leaves_unnamed s t e past b ih =
     ap (λ (x : ThreadFacts). x.leaving) (facts_made s t e past false not_of)
@@ -238,11 +246,13 @@ leaves_unnamed s t e past b ih =
     frames true h = frames_when s (cpu_of s t) t e past false h b
     frames false h = rw h
 
+-- a legal event of a run keeps the fact of leaving in agreement with the base frame
 leaves_after : (s : Script) (limit : ℕ) (t : ThreadNo) (e : Event) (past : List Event) (b : Bool) → is_by e t ≡ b → IsLegal s limit e past →
     IsRun s limit past → LeavesAs s t past → LeavesAs s t (e ∷ past)
 leaves_after s limit t e past true b g r ih = leaves_named s limit t e past b g r ih
 leaves_after s limit t e past false b g r ih = leaves_unnamed s t e past b ih
 
+-- in a run a thread's facts say that it is leaving exactly where its base frame is leaving
 pub leaves_as : (s : Script) (limit : ℕ) (t : ThreadNo) (past : List Event) → IsRun s limit past → LeavesAs s t past
 leaves_as s limit t [] r = refl
 leaves_as s limit t (e ∷ past) r =

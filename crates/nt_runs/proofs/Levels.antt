@@ -30,6 +30,7 @@ head_level : List Frame → Option ℕ
 head_level [] = None
 head_level (f ∷ fs) = Some f.level
 
+-- the level of the frames is read alike from the first frame and from the first level
 level_as : (own part : List Frame) → option_map_or (λ f. f.level) (option_or (head_of own) (head_of part)) 0
     ≡ unwrap_or (option_or (head_level own) (head_level part)) 0
 unfolding head_level
@@ -39,10 +40,12 @@ level_as (f ∷ fs) part = refl
 
 -- neither the number nor the due time of an event matters for the levels that it leaves
 
+-- the due time doesn't matter for the level after a call
 called_level : (due : Option ℕ) (c : Command) (y : Reply) (f : Frame) → (called due c y f).level ≡ (called None c y f).level
 called_level due (Delay m a units) y f = refl
 called_level due c y f = refl
 
+-- the due time of a call doesn't matter for the level of the frames after it
 call_level : (n : ℕ) (due : Option ℕ) (c : Command) (y : Reply) (fs : List Frame) → head_level (at_name n (called due c y) fs)
     ≡ head_level (at_name n (called None c y) fs)
 unfolding head_level
@@ -53,11 +56,13 @@ call_level n due c y (f ∷ fs) = go (f.name == n)
     go true = ap (λ (k : ℕ). Some k) (called_level due c y f)
     go false = refl
 
+-- the number of a flush doesn't matter for the level of the frames after it
 flush_level : (n : ℕ) (a : ApcNo) (r : Option RoutineNo) (fs : List Frame) → head_level (flushed n a r fs) ≡ head_level (flushed 0 a r fs)
 unfolding head_level
 flush_level n a None fs = refl
 flush_level n a (Some r) fs = refl
 
+-- neither number nor due time of an event matters for the level of a thread's frames after it
 thread_level : (b : Bool) (s : Script) (n : ℕ) (due : Option ℕ) (w : What) (fs : List Frame) → head_level (thread_if b s n due w fs)
     ≡ head_level (thread_if b s 0 None w fs)
 unfolding head_level
@@ -69,6 +74,7 @@ thread_level true s n due (Flush a from) fs = flush_level n a (rundown_of s a) f
 thread_level true s n due (Call f c y) fs = call_level f due c y fs
 thread_level true s n due w fs = refl
 
+-- neither number nor due time of an event matters for the level of the own part after it
 own_level : (n : ℕ) (due : Option ℕ) (w : What) (fs : List Frame) → head_level (own_after n due w fs) ≡ head_level (own_after 0 None w fs)
 unfolding head_level
 own_level n due (Begin (Int l) from) fs = refl
@@ -78,6 +84,7 @@ own_level n due (Begin (Apc a) from) fs = refl
 own_level n due (Call f c y) fs = call_level f due c y fs
 own_level n due w fs = refl
 
+-- tables of frames with equal levels have, at each place, frames of equal level
 table_level : (k n i : ℕ) (f g : ℕ → List Frame) → ((j : ℕ) → head_level (f j) ≡ head_level (g j)) → head_level (get_or (table_from k n f) i [])
     ≡ head_level (get_or (table_from k n g) i [])
 unfolding table_from
@@ -85,11 +92,13 @@ table_level k zero i f g h = refl
 table_level k (suc n) zero f g h = h k
 table_level k (suc n) (suc i) f g h = table_level (suc k) n i f g h
 
+-- the frames of the running thread have equal levels in tables whose levels are equal
 part_level : (n : ℕ) (f g : ℕ → List Frame) (r : Option ThreadNo) → ((j : ℕ) → head_level (f j) ≡ head_level (g j)) →
     head_level (option_map_or (frames_in (table n f)) r []) ≡ head_level (option_map_or (frames_in (table n g)) r [])
 part_level n f g None h = refl
 part_level n f g (Some t) h = table_level 0 n t.0 f g h
 
+-- the level after an event depends on neither its number nor its due time
 pub level_free : (s : Script) (n : ℕ) (due : Option ℕ) (e : Event) (x : Frames) → level_in (frames_after s n due e x) ≡ level_in (frames_after s 0 None e x)
 level_free s n due e x =
     let o = own_level n due e.what x.own in
@@ -101,6 +110,7 @@ level_free s n due e x =
     ∙ (ap (λ (b : Option ℕ). unwrap_or (option_or (head_level (own_after 0 None e.what x.own)) b) 0) t
     ∙ sym (level_as (frames_after s 0 None e x).own (thread_part (frames_after s 0 None e x)))))
 
+-- an event is of the processor that it names
 is_of-own : (e : Event) → is_of e e.cpu ≡ true
 is_of-own e = eq-eqb e.cpu.0 e.cpu.0 refl
 
@@ -110,6 +120,7 @@ level_named : (s : Script) (p : CpuNo) (w : What) (x : Frames) → is_look w ≡
 level_named s p (Look r) x h = cc
 level_named s p w x h = refl
 
+-- the level of an event that is no look is the level of its processor just after it
 pub levels_hold : (s : Script) (limit : ℕ) (e : Event) (past : List Event) → IsLegal s limit e past → is_look e.what ≡ false →
     level_in (frames_of s e.cpu (e ∷ past)) ≡ e.level
 levels_hold s limit e past r h =

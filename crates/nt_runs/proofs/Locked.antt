@@ -66,12 +66,15 @@ pub record LockedAt (next : Option Command) (base level : ℕ) (spin : Option He
 abbrev pub Locked : Script → CpuNo → Frame → Type 0
 Locked s p f = LockedAt (next_command s p f) (base_of f) f.level f.spin f.held
 
+-- false isn't true, so anything follows (for locks)
 no_bool : {A : Type 0} → false ≡ true → A
 no_bool h = cc
 
+-- an absent lock isn't a present one, so anything follows
 no_held : {A : Type 0} (h : Held) → ◌≡◌ {A = Option Held} None (Some h) → A
 no_held h e = cc
 
+-- a list of locks without a head is empty
 pub null_of_head : (hs : List Held) → head_of hs ≡ None → hs ≡ []
 null_of_head [] h = refl
 null_of_head (x ∷ xs) h = cc
@@ -98,6 +101,7 @@ empty_at next base level a = quiet_at next base level [] a tt (λ z. refl) (λ z
     null_not : {A : Type 0} → true ≡ false → A
     null_not z = cc
 
+-- the rules of locks carry over to an equal base level, level, lock spun on and list of held locks
 same_at : (next : Option Command) (b b' n n' : ℕ) (sp sp' : Option Held) (hs hs' : List Held) → b' ≡ b → n' ≡ n → sp' ≡ sp → hs' ≡ hs →
     LockedAt next b n sp hs → LockedAt next b' n' sp' hs'
 same_at next b b' n n' sp sp' hs hs' e1 e2 e3 e4 k =
@@ -138,11 +142,13 @@ effect_above s p x l n due c y k b h w = h
 pub move_low : (x : Own) (f : Frame) (r : Option Refusal) → not_above 2 (level_at x) r ≡ None → level_at x ≡ f.level → f.level ≤ 2
 move_low x f r h e = let z : level_at x ≤ 2 = ltb-false 2 (level_at x) (refuse_none (nat_lt 2 (level_at x)) TooHigh r h) in omega (arith, z, e)
 
+-- a call leaves the base level of its frame as it was
 pub called_base : (due : Option ℕ) (c : Command) (y : Reply) (f : Frame) → base_of (called due c y f) ≡ base_of f
 called_base due c y f =
     ap (λ (b : Body). base_level b (called due c y f).kernel_phase) ((called_keeps due c y).body f)
     ∙ ap (λ (b : Bool). base_level f.body b) (called_phase due c y f)
 
+-- a call that moves no lock keeps the rules of locks of its frame
 still : (s : Script) (p : CpuNo) (x : Own) (l : Lanes) (n : ℕ) (due : Option ℕ) (c : Command) (y : Reply) (k : KnownCall s p x l n c y) →
     call_move c y ≡ NoMove → Locked s p k.frame → Locked s p (called due c y k.frame)
 still s p x l n due c y k e h =
@@ -161,14 +167,17 @@ still s p x l n due c y k e h =
         ap (λ (b : Body). base_level b (called due c y k.frame).kernel_phase) ((called_keeps due c y).body k.frame)
         ∙ ap (λ (b : Bool). base_level k.frame.body b) (called_phase due c y k.frame)
 
+-- a frame that keeps some lock after freeing its last one goes back to DISPATCH_LEVEL or above
 tail_high : (level : ℕ) (hs : List Held) → Ordered hs → is_null (tail_of hs) ≡ false → 2 ≤ option_map_or (λ h. h.kept) (head_of hs) level
 tail_high level [] o z = cc
 tail_high level (x ∷ xs) o z = o.0 z
 
+-- without the last acquired lock, the order of kept levels still holds
 tail_ordered : (hs : List Held) → Ordered hs → Ordered (tail_of hs)
 tail_ordered [] o = tt
 tail_ordered (x ∷ xs) o = o.1
 
+-- without the lock acquired last, no lock stands twice among the rest
 pub tail_distinct : (hs : List Held) → Distinct hs → Distinct (tail_of hs)
 tail_distinct [] o = tt
 tail_distinct (x ∷ xs) o = o.1
@@ -180,6 +189,7 @@ without_last s p f next low h =
     quiet_at next (base_of f) (freed_level f) (tail_of f.held) (kept_head (base_of f) f.level f.held h.above h.floor)
     (kept_tail (base_of f) f.held h.floor) low (λ z. tail_high f.level f.held h.order z) (tail_ordered f.held h.order) (tail_distinct f.held h.differ)
 
+-- a call of the innermost frame keeps the rules of locks of its frame
 pub called_locked : (s : Script) (p : CpuNo) (x : Own) (l : Lanes) (n : ℕ) (due : Option ℕ) (c : Command) (y : Reply) (k : KnownCall s p x l n c y) →
     Locked s p k.frame → Locked s p (called due c y k.frame)
 called_locked s p x l n due (Acquire c) Done k h =
@@ -241,25 +251,30 @@ no_spin s p f e h = go f.spin refl
     go None q = q
     go (Some g) q = clash (next_command s p f) (Acquire g.lock) e (h.retry g q).0
 
+-- the release of the last acquired lock keeps the rules of locks of its frame
 pub freed_locked : (s : Script) (p : CpuNo) (x : Own) (n : ℕ) (c : LockNo) (k : KnownFree s p x n c) → Locked s p k.frame → Locked s p (freed k.frame)
 freed_locked s p x n c k h =
     subst (λ (o : Option Held). LockedAt (next_command s p k.frame) (base_of k.frame) (freed_level k.frame) o (tail_of k.frame.held))
     (sym (no_spin s p k.frame k.command h)) (without_last s p k.frame (next_command s p k.frame) (λ z. ap tail_of (h.low z).0) h)
 
+-- a base frame has PASSIVE_LEVEL as its base level
 base_none : (b : Body) (k : Bool) → is_base_body b ≡ true → base_level b k ≡ 0
 base_none (OnBase t) k h = refl
 base_none b k h = cc
 
+-- an APC that has a normal routine has PASSIVE_LEVEL as base level after its kernel routine
 normal_none : (b : Body) → has_normal b ≡ true → base_level b false ≡ 0
 normal_none (OnApc a kind) h = refl
 normal_none b h = cc
 
+-- a base frame that ends keeps the rules of locks
 ended_locked : (s : Script) (p : CpuNo) (x : Own) (n : ℕ) (k : KnownEnd s p x n) → is_base_body k.frame.body ≡ true → Locked s p (ended_base k.frame)
 ended_locked s p x n k b =
     let z = base_none k.frame.body k.frame.kernel_phase b in
     subst (λ (hs : List Held). LockedAt (next_command s p (ended_base k.frame)) (base_of k.frame) 0 None hs) (sym (null_of_head k.frame.held k.free))
     (empty_at (next_command s p (ended_base k.frame)) (base_of k.frame) 0 (omega (arith, z)))
 
+-- an APC that goes on to its normal routine keeps the rules of locks
 normal_locked : (s : Script) (p : CpuNo) (x : Own) (n : ℕ) (k : KnownNormal s p x n) → Locked s p (normal_of k.frame)
 normal_locked s p x n k =
     let z = normal_none k.frame.body k.normal in
@@ -267,13 +282,16 @@ normal_locked s p x n k =
     (sym (null_of_head k.frame.held k.free))
     (empty_at (next_command s p (normal_of k.frame)) (base_of (normal_of k.frame)) 0 (omega (arith, z)))
 
+-- a frame that comes back from a wait keeps the rules of locks
 resumed_locked : (s : Script) (p : CpuNo) (st : Option ℕ) (f : Frame) → Locked s p f → Locked s p (resumed st f)
 resumed_locked s p None f h = h
 resumed_locked s p (Some x) f h = h
 
+-- a new frame keeps the rules of locks
 pub new_locked : (s : Script) (p : CpuNo) (n : ℕ) (b : Body) → Locked s p (new_frame n b)
 new_locked s p n b = empty_at (next_command s p (new_frame n b)) (base_of (new_frame n b)) (base_of (new_frame n b)) (omega arith)
 
+-- the rules of locks are kept by each event of a run
 pub locked_kept : (s : Script) (p : CpuNo) → Kept s p (Locked s p)
 locked_kept s p = record {
   base = λ n t. new_locked s p n (OnBase t);

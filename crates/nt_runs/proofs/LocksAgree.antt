@@ -88,6 +88,7 @@ module _ (s : Script) (limit : ℕ) (p : CpuNo) (past : List Event) (r : IsRun s
   any_alone : (a : Frame) (fs : List Frame) → Each Clear fs → list_any (on_frame U) (a ∷ fs) ≡ on_frame U a
   any_alone a fs c = or_only (on_frame U a) (list_any (on_frame U) fs) (any_clear U z fs c)
 
+  -- where the innermost frame is no interrupt, some frame passes a test of locks exactly where it does
   pub alone : some_frame U s p past ≡ on_frame U i
   alone = go (own_frames p past) refl h.own
     where
@@ -113,6 +114,7 @@ module _ (s : Script) (limit : ℕ) (p : CpuNo) (past : List Event) (r : IsRun s
 module _ (s : Script) (limit : ℕ) (p : CpuNo) (e : Event) (past : List Event) (o : is_of e p ≡ true) (g : IsLegal s limit e past) (r : IsRun s limit past)
     (h : Parted s p past) (U : List Held → Option Held → Bool) (z : U [] None ≡ false) (i : Frame) (n : ℕ) (f : Frame → Frame)
     (inner : innermost (frames_of s p past) ≡ Some i) (name : n ≡ i.name) (base : base_of i ≤ 2) where
+  -- after a change of an innermost frame that is no interrupt, only what it has become counts for a test of locks
   pub alone_after : own_frames p (e ∷ past) ≡ at_name n f (own_frames p past) →
       thread_part (frames_of s p (e ∷ past)) ≡ at_name n f (thread_part (frames_of s p past)) → some_frame U s p (e ∷ past) ≡ on_frame U (f i)
   alone_after ow pa = parts ∙ go (own_frames p past) refl h.own
@@ -166,10 +168,12 @@ abbrev pub Agree : Script → CpuNo → LockNo → List Event → Type 0
 Agree s p k past = (is_queue (lock_of s k past).holder p ≡ some_frame (holds_lock k) s p past) ×
     (spins_at (lock_of s k past) p ≡ some_frame (spins_lock k) s p past)
 
+-- a new spin mark of one processor is read at that processor, and the others' marks stay
 pub spins_with : (s : Script) (p q : CpuNo) (b : Bool) (xs : List Bool) → p.0 < s.cpus → get_or (spinners_with s q b xs) p.0 false
     ≡ (if p.0 == q.0 then b else get_or xs p.0 false)
 spins_with s p q b xs l = get_or-table s.cpus p.0 (λ x. if x == q.0 then b else get_or xs x false) false l
 
+-- an event changes a lock's state by its lock move
 pub moved_by : (s : Script) (k : LockNo) (e : Event) (past : List Event) (w : What) → e.what ≡ w → lock_of s k (e ∷ past)
     ≡ lock_moved s k e.cpu (lock_move w) (lock_of s k past)
 moved_by s k e past w q = ap (λ (v : What). lock_moved s k e.cpu (lock_move v) (lock_of s k past)) q
@@ -203,6 +207,7 @@ abbrev Firsts : LockNo → List Held → Type 0
 Firsts x [] = ⊥
 Firsts x (a ∷ hs) = a.lock.0 ≡ x.0
 
+-- the lock that a frame acquired last is the first among those it holds
 last_first : (x : LockNo) (f : Frame) → is_last x f ≡ true → Firsts x f.held
 last_first x f h = go f.held h
   where
@@ -210,6 +215,7 @@ last_first x f h = go f.held h
     go [] q = cc
     go (a ∷ hs) q = eqb-true a.lock.0 x.0 q
 
+-- a lock named as the last acquired is the first of the held
 free_first : (x : LockNo) (f : Frame) (a : Held) → head_of f.held ≡ Some a → x ≡ a.lock → Firsts x f.held
 free_first x f a h e = go f.held h
   where
@@ -217,16 +223,19 @@ free_first x f a h e = go f.held h
     go [] q = cc
     go (b ∷ hs) q = let same : b ≡ a = cc in ap (λ (z : Held). z.lock.0) same ∙ ap (λ (z : LockNo). z.0) (sym e)
 
+-- the first of the held locks is among them
 firsts_among : (x k : LockNo) (hs : List Held) → Firsts x hs → (x.0 == k.0) ≡ true → among k hs ≡ true
 firsts_among x k [] f e = absurd f
 firsts_among x k (a ∷ hs) f e =
     let m : (a.lock.0 == k.0) ≡ true = ap (λ (n : ℕ). n == k.0) f ∙ e in ap (λ (b : Bool). b || among k hs) m
 
+-- the first held lock isn't among the others if no lock is held twice
 tail_free : (x k : LockNo) (hs : List Held) → Firsts x hs → Distinct hs → (x.0 == k.0) ≡ true → among k (tail_of hs) ≡ false
 tail_free x k [] f d e = absurd f
 tail_free x k (a ∷ hs) f d e =
     let same : a.lock.0 ≡ k.0 = f ∙ eqb-true x.0 k.0 e in ap (λ (n : ℕ). list_any (λ h. h.lock.0 == n) hs) (sym same) ∙ d.0
 
+-- a lock other than the first is among the held exactly where it is among the rest
 tail_other : (x k : LockNo) (hs : List Held) → Firsts x hs → (x.0 == k.0) ≡ false → among k hs ≡ among k (tail_of hs)
 tail_other x k [] f e = absurd f
 tail_other x k (a ∷ hs) f e =
@@ -442,6 +451,7 @@ module _ (s : Script) (limit : ℕ) (p : CpuNo) (e : Event) (past : List Event) 
         ap (λ (l : LockState). spins_at l p) l ∙ (ih.1 ∙ sym (some_frame_same s limit p e past o g r h (spins_lock k) refl mv)),
       )
 
+  -- after an acquire that spins, its processor spins on exactly that lock
   pub spin_now : (f : ℕ) (x : LockNo) → e.what ≡ Call f (Acquire x) Spin → some_frame (spins_lock k) s p (e ∷ past) ≡ (x.0 == k.0)
   spin_now f x w =
       let q : KnownCall s p (own_of s p past) (lanes_at s past) f (Acquire x) Spin = is_known (Call f (Acquire x) Spin) w refl in
@@ -478,6 +488,7 @@ module _ (s : Script) (limit : ℕ) (p : CpuNo) (e : Event) (past : List Event) 
       go (Call f (Acquire y) Spin) q m = cc
       go w q m = cc
 
+  -- an event of the processor itself keeps the lane of a lock in agreement with its frames
   pub agree_own : Agree s p k (e ∷ past)
   agree_own = go e.what refl
     where

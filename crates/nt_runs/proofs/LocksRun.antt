@@ -29,13 +29,16 @@ use Rattle.nt_event.proofs.Moves.{own_moves}
 use Rattle.nt_event.specs.Frames.{thread_part}
 use Rattle.nt_runs.specs.SomeFrame.{some_frame, holds_lock, on_frame, spins_lock}
 
+-- the lock that the lanes hold for a declared number is the lock of the history
 pub lock_there : (s : Script) (k : LockNo) (past : List Event) → k.0 < s.locks → lock_at (lanes_at s past) k ≡ lock_of s k past
 lock_there s k past l = get_or-table s.locks k.0 (λ n. lock_of s (lock n) past) start_lock l
 
+-- an acquire that is answered as done found the lock free
 pub done_free : (b : Bool) → Done ≡ (if b then Done else Spin) → b ≡ true
 done_free true h = refl
 done_free false h = cc
 
+-- an acquire that spins found the lock taken
 pub spin_held : (b : Bool) → Spin ≡ (if b then Done else Spin) → b ≡ false
 spin_held true h = cc
 spin_held false h = refl
@@ -158,6 +161,7 @@ module _ (s : Script) (limit : ℕ) (p : CpuNo) (e : Event) (past : List Event) 
             ap (λ (l : LockState). spins_at l p) l ∙ ((ih p below).1 ∙ sym spins_same),
           )
 
+  -- an event of another processor keeps the lane of a lock in agreement with the processor's frames
   pub agree_other : Agree s p k (e ∷ past)
   agree_other = by_move e.what refl (lock_move e.what) refl
 

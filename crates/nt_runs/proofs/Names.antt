@@ -37,10 +37,12 @@ abbrev pub Apart : List Frame → List Frame → Type 0
 Apart [] fs = Unit {0}
 Apart (g ∷ gs) fs = NotAmong g.name fs × Apart gs fs
 
+-- names below a bound are below each greater one
 below_more : (n m : ℕ) (fs : List Frame) → n ≤ m → AllBelow n fs → AllBelow m fs
 below_more n m [] l h = tt
 below_more n m (f ∷ fs) l h = (omega (arith, l, h.0), below_more n m fs l h.1)
 
+-- a number above all names of a list is none of them
 new_among : (n : ℕ) (fs : List Frame) → AllBelow n fs → NotAmong n fs
 new_among n [] h = tt
 new_among n (f ∷ fs) h = (λ e. absurd (omega (arith, h.0, e)), new_among n fs h.1)
@@ -49,16 +51,19 @@ new_among n (f ∷ fs) h = (λ e. absurd (omega (arith, h.0, e)), new_among n fs
 abbrev Naming : (Frame → Frame) → Type 0
 Naming g = (f : Frame) → (g f).name ≡ f.name
 
+-- doing a command leaves the name of its frame as it was
 pub done_name : (c : Command) (f : Frame) → (done_to c f).name ≡ f.name
 done_name (Raise l) f = refl
 done_name c f = refl
 
+-- a call leaves the name of its frame as it was
 pub called_name : (due : Option ℕ) (c : Command) (y : Reply) (f : Frame) → (called due c y f).name ≡ f.name
 called_name due (StartWait m a) y f = refl
 called_name due (Delay m a u) y f = refl
 called_name due c Done f = done_name c f
 called_name due c y f = refl
 
+-- coming back from a wait leaves the name of a frame as it was
 pub resumed_name : (st : Option ℕ) (f : Frame) → (resumed st f).name ≡ f.name
 resumed_name None f = refl
 resumed_name (Some x) f = refl
@@ -67,12 +72,15 @@ resumed_name (Some x) f = refl
 abbrev Within : List Frame → List Frame → Type 0
 Within gs fs = ((n : ℕ) → AllBelow n fs → AllBelow n gs) × ((n : ℕ) → NotAmong n fs → NotAmong n gs)
 
+-- a list of frames has names within its own
 within_same : (fs : List Frame) → Within fs fs
 within_same fs = (λ n h. h, λ n h. h)
 
+-- a change of the first frame that keeps its name keeps the names of the list
 within_head : (g : Frame → Frame) (f : Frame) (fs : List Frame) → (g f).name ≡ f.name → Within (g f ∷ fs) (f ∷ fs)
 within_head g f fs e = (λ n h. (rw e h.0, h.1), λ n h. (λ x. h.0 (sym e ∙ x), h.1))
 
+-- a change by name that keeps names keeps the names of the list
 within_named : (n : ℕ) (g : Frame → Frame) (fs : List Frame) → Naming g → Within (at_name n g fs) fs
 within_named n g [] k = within_same []
 within_named n g (f ∷ fs) k = go (f.name == n)
@@ -81,9 +89,11 @@ within_named n g (f ∷ fs) k = go (f.name == n)
     go true = within_head g f fs (k f)
     go false = within_same (f ∷ fs)
 
+-- the frames under the innermost one have names within all
 within_tail : (f : Frame) (fs : List Frame) → Within fs (f ∷ fs)
 within_tail f fs = (λ n h. h.1, λ n h. h.1)
 
+-- taking out a frame by name leaves names within those before
 within_without : (n : ℕ) (fs : List Frame) → Within (without n fs) fs
 within_without n [] = within_same []
 within_without n (f ∷ fs) = go (f.name == n)
@@ -92,6 +102,7 @@ within_without n (f ∷ fs) = go (f.name == n)
     go true = within_tail f fs
     go false = within_same (f ∷ fs)
 
+-- the end of a thread's innermost frame leaves names within those before
 within_end : (n : ℕ) (fs : List Frame) → Within (end_on_thread n fs) fs
 within_end n [] = within_same []
 within_end n (f ∷ fs) = go (f.name == n) (is_base_body f.body)
@@ -101,6 +112,7 @@ within_end n (f ∷ fs) = go (f.name == n) (is_base_body f.body)
     go true false = within_tail f fs
     go false c = within_same (f ∷ fs)
 
+-- two lists of different names stay so when the second is cut to names within it
 apart_within : (gs hs fs : List Frame) → Within hs fs → Apart gs fs → Apart gs hs
 apart_within [] hs fs w h = tt
 apart_within (g ∷ gs) hs fs w h = (w.1 g.name h.0, apart_within gs hs fs w h.1)
@@ -110,6 +122,7 @@ apart_new : (gs : List Frame) (f : Frame) (fs : List Frame) → AllBelow f.name 
 apart_new [] f fs b h = tt
 apart_new (g ∷ gs) f fs b h = ((λ e. absurd (omega (arith, b.0, e)), h.0), apart_new gs f fs b.1 h.1)
 
+-- a change by name that keeps names leaves the names of two parts different
 apart_named : (n : ℕ) (g : Frame → Frame) (gs fs : List Frame) → Naming g → Apart gs fs → Apart (at_name n g gs) fs
 apart_named n g [] fs k h = h
 apart_named n g (x ∷ gs) fs k h = (go (x.name == n), h.1)
@@ -118,6 +131,7 @@ apart_named n g (x ∷ gs) fs k h = (go (x.name == n), h.1)
     go true = subst (λ (m : ℕ). NotAmong m fs) (sym (k x)) h.0
     go false = h.0
 
+-- taking out a frame by name leaves the names of two parts different
 apart_without : (n : ℕ) (gs fs : List Frame) → Apart gs fs → Apart (without n gs) fs
 apart_without n [] fs h = h
 apart_without n (g ∷ gs) fs h = go (g.name == n)
@@ -214,6 +228,7 @@ own_within n due (End f) gs h = within_without f gs
 own_within n due (Free f k) gs h = within_named f freed gs (λ x. refl)
 own_within n due w gs h = within_same gs
 
+-- an event leaves the names of both parts different, and below the next number
 named_both : (s : Script) (n : ℕ) (due : Option ℕ) (w : What) (gs fs : List Frame) → Named n gs fs →
     Named (suc n) (own_after n due w gs) (thread_after s n due w fs)
 named_both s n due w gs fs h = go (begins_own w) refl
@@ -233,6 +248,7 @@ named_both s n due w gs fs h = go (begins_own w) refl
         let t = named_thread s n due w (own_after n due w gs) fs k in
         record { own = o.0; thread = t.0; apart = t.1 }
 
+-- a step of a run leaves the names of a processor's frames different, and below the next number
 named_step : (s : Script) (p : CpuNo) (t : ThreadNo) (e : Event) (past : List Event) (own by : Bool) → is_of e p ≡ own → is_by e t ≡ by →
     Named (length past) (own_frames p past) (thread_frames s p t past) → Named (suc (length past)) (own_frames p (e ∷ past)) (thread_frames s p t (e ∷ past))
 named_step s p t e past false by o b h =

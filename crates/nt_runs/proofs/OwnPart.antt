@@ -26,9 +26,11 @@ abbrev pub AllOwn : List Frame → Type 0
 AllOwn [] = Unit {0}
 AllOwn (f ∷ fs) = IsOwn f × AllOwn fs
 
+-- a change that keeps what runs in a frame keeps it a frame of the own part
 kept_own : (g : Frame → Frame) (f : Frame) → Keeps g → IsOwn f → IsOwn (g f)
 kept_own g f k h = (ap is_own_body (k.body f) ∙ h.0, k.leaving f ∙ h.1)
 
+-- a change by name that keeps what runs in frames keeps all of the own part
 named_own : (n : ℕ) (g : Frame → Frame) (fs : List Frame) → Keeps g → AllOwn fs → AllOwn (at_name n g fs)
 named_own n g [] k h = h
 named_own n g (f ∷ fs) k h = (go (f.name == n), h.1)
@@ -37,6 +39,7 @@ named_own n g (f ∷ fs) k h = (go (f.name == n), h.1)
     go true = kept_own g f k h.0
     go false = h.0
 
+-- taking out a frame by name leaves only frames of the own part
 without_own : (n : ℕ) (fs : List Frame) → AllOwn fs → AllOwn (without n fs)
 without_own n [] h = h
 without_own n (f ∷ fs) h = go (f.name == n)
@@ -45,6 +48,7 @@ without_own n (f ∷ fs) h = go (f.name == n)
     go true = h.1
     go false = h
 
+-- an event leaves only frames of the own part on it
 after_own : (n : ℕ) (due : Option ℕ) (w : What) (fs : List Frame) → AllOwn fs → AllOwn (own_after n due w fs)
 after_own n due (Begin (Int l) from) fs h = ((refl, refl), h)
 after_own n due (Begin (Dpc d) from) fs h = ((refl, refl), h)
@@ -55,10 +59,12 @@ after_own n due (End f) fs h = without_own f fs h
 after_own n due (Free f k) fs h = named_own f freed fs freed_keeps h
 after_own n due w fs h = h
 
+-- of two own parts, the one picked by a test has frames of the own part alone
 own_if : (b : Bool) (fs gs : List Frame) → AllOwn fs → AllOwn gs → AllOwn (if b then fs else gs)
 own_if true fs gs h k = h
 own_if false fs gs h k = k
 
+-- each frame on a processor's own part is of an interrupt, a DPC or a threaded DPC, and is not leaving
 pub all_own : (p : CpuNo) (past : List Event) → AllOwn (own_frames p past)
 all_own p [] = tt
 all_own p (e ∷ past) =

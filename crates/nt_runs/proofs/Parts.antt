@@ -58,6 +58,7 @@ halts_low s p x l n c Blocked k h =
     (call_accepted s p x l n c Blocked k refl).0
 halts_low s p x l n c y k h = cc
 
+-- where no frame has a lock or spin, a change of a named frame that adds none leaves none
 pub clear_named : (n : ℕ) (g : Frame → Frame) (fs : List Frame) → ((f : Frame) → Clear f → Clear (g f)) → Each Clear fs → Each Clear (at_name n g fs)
 clear_named n g [] k h = h
 clear_named n g (f ∷ fs) k h = (go (f.name == n), h.1)
@@ -66,6 +67,7 @@ clear_named n g (f ∷ fs) k h = (go (f.name == n), h.1)
     go true = k f h.0
     go false = h.0
 
+-- a call that moves no lock keeps a frame that holds no lock and spins on none so
 pub called_clear : (due : Option ℕ) (c : Command) (y : Reply) (f : Frame) → call_move c y ≡ NoMove → Clear f → Clear (called due c y f)
 called_clear due c y f e h = (ap (λ (m : LockMove). held_moved m f) e ∙ h.0, ap (λ (m : LockMove). spin_moved m f) e)
 
@@ -95,6 +97,7 @@ module _ (s : Script) (limit : ℕ) (p : CpuNo) (e : Event) (past : List Event) 
       ap (λ (v : What). thread_field v (running p past)) (sym k)
       ∙ (ap (λ (q : CpuNo). thread_field e.what (running q past)) (sym (same_cpu e p o)) ∙ (sym (thread_named s limit e past g) ∙ same_thread e.thread t b))
 
+  -- an event of the processor whose thread is this one is made by this thread
   pub named_by_it : (t : ThreadNo) (w : What) → e.what ≡ w → thread_field w (running p past) ≡ Some t → is_by e t ≡ true
   named_by_it t w k f =
       let named : e.thread ≡ Some t = thread_named s limit e past g
@@ -290,6 +293,7 @@ module _ (s : Script) (limit : ℕ) (p : CpuNo) (e : Event) (past : List Event) 
               null_after e.what refl z after (thread_after s (length past) (due_of e.what (time past)) e.what (thread_frames s p t past))
               (λ q. over_by t (length past) (due_of e.what (time past)) e.what refl q (h.over t q) after)
 
+  -- an event of the processor keeps the parting of its frames: at most one of them holds locks or spins
   pub parted_step : Parted s p (e ∷ past)
   parted_step = record { own = under; stopped = stopped; tail = tail; over = over }
 
@@ -323,6 +327,7 @@ leaving_low_level s limit p past r f i l =
     (thread_part (frames_of s p past)) null refl in
     omega (arith, z, same)
 
+-- the first of frames that all keep the rules of locks keeps them
 first_locked : (s : Script) (p : CpuNo) (fs : List Frame) (f : Frame) → Each (Locked s p) fs → head_of fs ≡ Some f → Locked s p f
 first_locked s p [] f h e = cc
 first_locked s p (g ∷ fs) f h e = let same : g ≡ f = cc in subst (Locked s p) same h.0

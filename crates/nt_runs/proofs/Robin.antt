@@ -59,14 +59,17 @@ use Rattle.nt_runs.proofs.Steps.{cpu_at-turn_at, step_uncut}
 abbrev pub Comes : {A : Type 0} → Option A → Type 0
 Comes {A} o = (x : A) × (o ≡ Some x)
 
+-- one of two answers comes if the second one does
 pub comes_or : {A : Type 0} (a b : Option A) → Comes b → Comes (option_or a b)
 comes_or None b h = h
 comes_or (Some x) b h = (x, refl)
 
+-- an answer under a true condition comes if it comes without it
 pub comes_when : {A : Type 0} (t : Bool) (a : Option A) → t ≡ true → Comes a → Comes (when t a)
 comes_when true a e h = h
 comes_when false a e h = cc
 
+-- an answer made from another one comes if the other comes and what is made from it comes
 pub comes_then : {A B : Type 0} (f : A → Option B) (a : Option A) (x : A) → a ≡ Some x → Comes (f x) → Comes (option_and_then f a)
 comes_then f None x e h = cc
 comes_then f (Some y) x e h = let k : x ≡ y = cc in subst (λ v. Comes (f v)) k h
@@ -76,6 +79,7 @@ comes_then f (Some y) x e h = let k : x ≡ y = cc in subst (λ v. Comes (f v)) 
 abbrev EventOf : Script → Stand → Lanes → Task → Type 0
 EventOf s st l t = Comes (task_event s st l t)
 
+-- each task that must be done first gives an event
 must_comes : (s : Script) (st : Stand) (l : Lanes) (x : Own) → Holds (EventOf s st l) (must_task x)
 must_comes s st l x =
     holds_or (EventOf s st l) (fire_task x) _ (holds_map (EventOf s st l) (λ d. Shared (FireJob d)) x.fire (λ d e. (_, refl)))
@@ -89,6 +93,7 @@ must_comes s st l x =
 
 -- ---- a frame gives an event
 
+-- the task of a command gives an event, refused or not
 call_comes : (s : Script) (st : Stand) (l : Lanes) (f : Frame) (c : Command) (r : Option Refusal) → EventOf s st l (call_task f c r)
 call_comes s st l f c (Some r) = (_, refl)
 call_comes s st l f ToUser None = (_, refl)
@@ -98,15 +103,18 @@ call_comes s st l f c None = lane (needs_lane c)
     lane true = (_, refl)
     lane false = (_, refl)
 
+-- the next command, if there is one, gives an event
 command_comes : (s : Script) (st : Stand) (l : Lanes) (x : Own) (f : Frame) (o : Option Command) → Holds (EventOf s st l) (command_task x f o)
 command_comes s st l x f None = tt
 command_comes s st l x f (Some c) = call_comes s st l f c _
 
+-- the task that ends a frame gives an event
 end_comes : (s : Script) (st : Stand) (l : Lanes) (n : ℕ) (b : Body) → EventOf s st l (end_task n b)
 end_comes s st l n (OnBase t) = (_, refl)
 end_comes s st l n (OnApc a UserApc) = (_, refl)
 end_comes s st l n b = (_, refl)
 
+-- the job that takes up a wait again gives an event where there is a wait
 rewait_comes : (s : Script) (st : Stand) (l : Lanes) (f : Frame) → st.again ≡ f.again → is_some f.again ≡ true → EventOf s st l (Shared RewaitJob)
 rewait_comes s st l f e h = go f.again e h
   where
@@ -114,9 +122,11 @@ rewait_comes s st l f e h = go f.again e h
     go None e h = cc
     go (Some w) e h = rw e (_, refl)
 
+-- the rundown of a running thread gives an event
 rundown_comes : (s : Script) (st : Stand) (l : Lanes) → Comes st.thread → EventOf s st l (Shared RundownJob)
 rundown_comes s st l h = rw h.1 (_, refl)
 
+-- each task of a frame gives an event, if a leaving one has its thread running
 frame_comes : (s : Script) (st : Stand) (l : Lanes) (p : CpuNo) (x : Own) (f : Frame) → st.again ≡ f.again → (f.leaving ≡ true → Comes st.thread) →
     Holds (EventOf s st l) (frame_task s p x f)
 frame_comes s st l p x f again leaves =
@@ -156,6 +166,7 @@ innermost_stands x f h own leaving = go x.own x.running refl refl
         cc
     go [] (Some t) a b = (t, b)
 
+-- where a processor stands has the wait to take up of its innermost frame
 pub again_stands : (p : CpuNo) (x : Frames) (sweep : Bool) (f : Frame) → innermost x ≡ Some f → (stand_of p x sweep).again ≡ f.again
 again_stands p x sweep f h = ap (λ (o : Option Frame). option_and_then (λ g. g.again) o) h
 
@@ -164,6 +175,7 @@ based_none : (t : ThreadNo) (part : List Frame) → HasBase t part → head_of p
 based_none t [] h e = h
 based_none t (f ∷ fs) h e = cc
 
+-- a processor with no innermost frame has an empty own part
 no_frame : (x : Frames) → innermost x ≡ None → is_null x.own ≡ true
 no_frame x h = go x.own h
   where
@@ -171,6 +183,7 @@ no_frame x h = go x.own h
     go [] k = refl
     go (f ∷ fs) k = cc
 
+-- with no innermost frame the running thread's part has no frame
 no_part : (x : Frames) → innermost x ≡ None → head_of (thread_part x) ≡ None
 no_part x h = go x.own h
   where
@@ -178,6 +191,7 @@ no_part x h = go x.own h
     go [] k = k
     go (f ∷ fs) k = cc
 
+-- in a run a processor without innermost frame runs no thread
 no_thread : (s : Script) (limit : ℕ) (p : CpuNo) (past : List Event) → IsRun s limit past → innermost (frames_of s p past) ≡ None → running p past ≡ None
 no_thread s limit p past r h = go (running p past) refl
   where
@@ -186,6 +200,7 @@ no_thread s limit p past r h = go (running p past) refl
     go (Some t) e =
         absurd (based_none t (thread_part (frames_of s p past)) (running_has_base s limit p t past r e).2 (no_part (frames_of s p past) h))
 
+-- no thread, an empty part and nothing to be done first together pass the test of a switch
 may_where : (o : Option ThreadNo) (a m : Bool) → o ≡ None → a ≡ true → m ≡ false → (is_none o && (a && not m)) ≡ true
 may_where None true false f h q = refl
 may_where None true true f h q = cc
@@ -220,6 +235,7 @@ task_goes_on s p x m q =
     ap (λ (o : Option Task). option_or o (when (not (waits_for_lock x)) (go_on_task s p x))) m
     ∙ ap (λ (b : Bool). when (not b) (go_on_task s p x)) q
 
+-- where neither of two tests holds, each fails
 or_false : (a b : Bool) → (a || b) ≡ false → (a ≡ false) × (b ≡ false)
 or_false true b h = cc
 or_false false b h = (refl, h)
@@ -232,6 +248,7 @@ awake x h m =
     let both : (waits_for_lock x && true) ≡ false = rw quiet at k.1 in
     (k.0, sym (and-true (waits_for_lock x)) ∙ both)
 
+-- in a run a task that must be done first gives the next event
 task_must : (s : Script) (limit : ℕ) (p : CpuNo) (past : List Event) (t : Task) → must_task (own_of s p past) ≡ Some t →
     Comes (next_what s p (own_of s p past) (lanes_at s past))
 task_must s limit p past t m =
@@ -241,6 +258,7 @@ task_must s limit p past t m =
     let task_is : task s p x ≡ Some t = ap (λ (o : Option Task). option_or o (when (not (waits_for_lock x)) (go_on_task s p x))) m in
     comes_then (task_event s st l) (task s p x) t task_is (holds_at (EventOf s st l) (must_task x) t (must_comes s st l x) m)
 
+-- a frame that may go on gives the next event
 task_frame : (s : Script) (p : CpuNo) (past : List Event) (f : Frame) → must_task (own_of s p past) ≡ None → waits_for_lock (own_of s p past) ≡ false →
     innermost (frames_of s p past) ≡ Some f → Comes (next_what s p (own_of s p past) (lanes_at s past))
 task_frame s p past f m q h =
@@ -254,6 +272,7 @@ task_frame s p past f m q h =
     (holds_at (EventOf s st l) (frame_task s p x f) t.0
     (frame_comes s st l p x f (again_stands p x.frames x.sweep f h) (innermost_stands x.frames f h (all_own p past))) t.1)
 
+-- in a run a processor without frames that doesn't rest and can't switch to a ready thread has a next event
 task_idle : (s : Script) (limit : ℕ) (p : CpuNo) (past : List Event) → IsRun s limit past → must_task (own_of s p past) ≡ None →
     waits_for_lock (own_of s p past) ≡ false → innermost (frames_of s p past) ≡ None → rests (own_of s p past) ≡ false → (may_switch (own_of s p past)
     ≡ true → is_null (ready s p (lanes_at s past)) ≡ true) →
@@ -303,6 +322,7 @@ none_ready s p last l h = go (ready s p l) h
 
 -- ---- looks
 
+-- a disjunction is true if its second part is true
 pub or_yes : (a b : Bool) → b ≡ true → (a || b) ≡ true
 or_yes true b h = refl
 or_yes false b h = h
@@ -321,6 +341,7 @@ asked_was s p c (e ∷ past) = go (asks s p c e past) refl (asked_was s p c past
     go false k (inr w) =
         let a : asked s p c (e ∷ past) ≡ asked s p c past = rw k in inr (subst (λ (v : ℕ). was_asked s p c v (e ∷ past) ≡ true) (sym a) (or_yes _ _ w))
 
+-- the value of a look in a class is none or above what was seen, and was asked for
 value_good : (s : Script) (p : CpuNo) (c : ℕ) (x : Own) (past : List Event) (b : Bool) → nat_lt (value_at x.seen c) (asked s p c past) ≡ b →
     (((if b then asked s p c past else 0) == 0) || (nat_lt (value_at x.seen c) (if b then asked s p c past else 0)
     && was_asked s p c (if b then asked s p c past else 0) past)) ≡ true
@@ -332,6 +353,7 @@ value_good s p c x past true k = go (asked_was s p c past)
     go (inl z) = rw (eq-eqb (asked s p c past) 0 z) refl
     go (inr w) = rw (k, w) (or_yes _ _ refl)
 
+-- the values of a look in the classes rise only to what was asked for
 looks_good : (s : Script) (p : CpuNo) (x : Own) (past : List Event) (n c : ℕ) → good_rises s p c (table_from c n (look_value x (λ k. asked s p k past))) x past
     ≡ true
 unfolding table_from
@@ -347,11 +369,13 @@ behind_looks s p x past h = rw (h, looks_good s p x past 16 0)
 
 -- ---- the turn of a processor
 
+-- the turn of an uncut processor to make its next event is accepted if there is one
 next_accepted : (s : Script) (limit : ℕ) (p : CpuNo) (past : List Event) → nat_lt p.0 s.cpus ≡ true → is_cut limit (own_of s p past) ≡ false →
     Comes (next_what s p (own_of s p past) (lanes_at s past)) → Accepts s limit (Next p) past
 next_accepted s limit p past below uncut c =
     accepted s limit (Next p) past NothingToDo (next_what s p (own_of s p past) (lanes_at s past)) below uncut refl c
 
+-- the turn of an uncut processor to switch is accepted where it may switch and take the thread
 switch_accepted : (s : Script) (limit : ℕ) (p : CpuNo) (t : ThreadNo) (past : List Event) → nat_lt p.0 s.cpus ≡ true → is_cut limit (own_of s p past) ≡ false →
     may_switch (own_of s p past) ≡ true → may_take s p t (lanes_at s past) ≡ true → Accepts s limit (SwitchTurn p t) past
 switch_accepted s limit p t past below uncut may take =
@@ -360,12 +384,14 @@ switch_accepted s limit p t past below uncut may take =
     accepted s limit (SwitchTurn p t) past BadChoice (when (may_switch x) (when (may_take s p t l) (Some (switch_event t l)))) below uncut refl
     (comes_when (may_switch x) _ may (comes_when (may_take s p t l) _ take (_, refl)))
 
+-- the turn of an uncut processor to look is accepted if the look is good
 look_accepted : (s : Script) (limit : ℕ) (p : CpuNo) (r : Rises) (past : List Event) → nat_lt p.0 s.cpus ≡ true → is_cut limit (own_of s p past) ≡ false →
     is_good_look s p r.value (own_of s p past) past ≡ true → Accepts s limit (LookTurn p r) past
 look_accepted s limit p r past below uncut good =
     accepted s limit (LookTurn p r) past BadLook (when (is_good_look s p r.value (own_of s p past) past) (Some (Look r))) below uncut refl
     (comes_when (is_good_look s p r.value (own_of s p past) past) _ good (_, refl))
 
+-- in a run the go-on turn of an uncut processor that isn't still is accepted
 go_on_accepted : (s : Script) (limit : ℕ) (p : CpuNo) (past : List Event) → IsRun s limit past → nat_lt p.0 s.cpus ≡ true → is_cut limit (own_of s p past)
     ≡ false → is_still (own_of s p past) ≡ false → Accepts s limit (go_on_turn s p (own_of s p past) (lanes_at s past)) past
 go_on_accepted s limit p past r below uncut awake = go (may_switch (own_of s p past)) refl
@@ -387,6 +413,7 @@ go_on_accepted s limit p past r below uncut awake = go (may_switch (own_of s p p
         no : {A : Type 0} → may_switch (own_of s p past) ≡ false → may_switch (own_of s p past) ≡ true → A
         no a b = cc
 
+-- the robin rule's turn of an uncut processor is accepted in a run
 pub robin_at_accepted : (s : Script) (limit : ℕ) (p : CpuNo) (past : List Event) → IsRun s limit past → nat_lt p.0 s.cpus ≡ true →
     is_cut limit (own_of s p past) ≡ false → Holds (λ t. Accepts s limit t past) (robin_at s p (own_of s p past) (lanes_at s past) (λ c. asked s p c past))
 robin_at_accepted s limit p past r below uncut =
@@ -407,6 +434,7 @@ robin_at_accepted s limit p past r below uncut =
 
 -- ---- the cycle
 
+-- in a run the turn that the robin rule gives a processor is accepted
 robin_of_accepted : (s : Script) (limit : ℕ) (p : ℕ) (past : List Event) → IsRun s limit past → p < s.cpus →
     Holds (λ t. Accepts s limit t past) (robin_of s limit (cpu p) past)
 robin_of_accepted s limit p past r below =
@@ -423,6 +451,7 @@ cycle_below s p h = go (suc p == s.cpus) refl
         let n : suc p ≡ s.cpus → ⊥ = λ k. let t : (suc p == s.cpus) ≡ true = eq-eqb (suc p) s.cpus k in cc in
         omega (arith, n)
 
+-- in a run the first turn found in a cycle of processors is accepted
 robin_from_accepted : (s : Script) (limit : ℕ) (n p : ℕ) (past : List Event) → IsRun s limit past → p < s.cpus →
     Holds (λ t. Accepts s limit t past) (robin_from s limit n p past)
 robin_from_accepted s limit zero p past r below = tt
@@ -438,15 +467,18 @@ cpu_below s limit e past h =
     let b : (cpu_at (turn_of e)).0 < s.cpus = ltb-true (cpu_at (turn_of e)).0 s.cpus t in
     subst (λ (q : CpuNo). q.0 < s.cpus) (cpu_at-turn_at e.cpu e.what) b
 
+-- in a run the robin turn is accepted if there is at least one processor
 robin_nonempty : (s : Script) (limit : ℕ) (past : List Event) → IsRun s limit past → 0 < s.cpus → Holds (λ t. Accepts s limit t past) (robin s limit past)
 robin_nonempty s limit [] r some = robin_from_accepted s limit s.cpus 0 [] r some
 robin_nonempty s limit (e ∷ past) r some =
     robin_from_accepted s limit s.cpus (first_cpu s (e ∷ past)) (e ∷ past) r (cycle_below s e.cpu.0 (cpu_below s limit e past r.0))
 
+-- a cycle over no processor gives no turn that could be refused
 robin_of_none : (s : Script) (limit : ℕ) (n p : ℕ) (past : List Event) → n ≡ 0 → Holds (λ t. Accepts s limit t past) (robin_from s limit n p past)
 robin_of_none s limit zero p past h = tt
 robin_of_none s limit (suc n) p past h = absurd (omega (arith, h))
 
+-- the turn of the robin rule is accepted in a run
 pub robin_accepted : (s : Script) (limit : ℕ) (past : List Event) (t : Turn) → IsRun s limit past → robin s limit past ≡ Some t → Accepts s limit t past
 robin_accepted s limit past t r h = holds_at (λ t. Accepts s limit t past) (robin s limit past) t (go (nat_lt 0 s.cpus) refl) h
   where

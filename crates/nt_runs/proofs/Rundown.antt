@@ -29,14 +29,17 @@ use Rattle.nt_runs.proofs.Pending.{NoKernel, Shrinks, leaving_closed, legal_shri
 
 -- ---- what was seen and served
 
+-- what a processor has seen changes by the rule of seeing at its own events
 seen_own : (s : Script) (p : CpuNo) (c : ℕ) (e : Event) (past : List Event) → is_of e p ≡ true → seen s p c (e ∷ past)
     ≡ seen_after (length past) e.what c (asks s p c e past) (told s p c e past) (seen s p c past)
 seen_own s p c e past h = rw h
 
+-- what a processor has served changes by the rule of serving at its own events
 served_own : (s : Script) (p : CpuNo) (c : ℕ) (e : Event) (past : List Event) → is_of e p ≡ true → served s p c (e ∷ past)
     ≡ served_after e.what c (seen s p c (e ∷ past)) (served s p c past)
 served_own s p c e past h = rw h
 
+-- what is seen doesn't fall at an event, if it was at most the event's number
 after_up : (b : Bool) (n : ℕ) (w : What) (c told old : ℕ) → old ≤ n → old ≤ seen_after n w c b told old
 after_up true n w c told old h = omega (arith, h)
 after_up false n w c told old h = omega arith
@@ -46,12 +49,14 @@ pub seen_length : (s : Script) (limit : ℕ) (p : CpuNo) (c : ℕ) (past : List 
 seen_length s limit p c past r =
     let a = seen_below s limit p c past r in let b = asked_below s p c past in omega (arith, a, b)
 
+-- what a processor noticed of a class never falls with its own events
 pub seen_grows : (s : Script) (limit : ℕ) (p : CpuNo) (c : ℕ) (e : Event) (past : List Event) → IsRun s limit past → is_of e p ≡ true →
     seen s p c past ≤ seen s p c (e ∷ past)
 seen_grows s limit p c e past r h =
     let a = after_up (asks s p c e past) (length past) e.what c (told s p c e past) (seen s p c past) (seen_length s limit p c past r) in
     rw (seen_own s p c e past h) a
 
+-- what was served of a class is at most what was noticed of it
 pub served_below : (s : Script) (limit : ℕ) (p : CpuNo) (c : ℕ) (past : List Event) → IsRun s limit past → served s p c past ≤ seen s p c past
 served_below s limit p c [] r = omega arith
 served_below s limit p c (e ∷ past) r = go (is_of e p) refl (served_below s limit p c past r.1)
@@ -111,6 +116,7 @@ abbrev pub is_rundown : Body → Bool
 is_rundown (OnRundown a) = true
 is_rundown b = false
 
+-- a change of a named frame that keeps what runs in it leaves open the same kinds of frames
 pub named_runs : (test : Body → Bool) (n : ℕ) (g : Frame → Frame) (fs : List Frame) → Keeps g → Runs test (at_name n g fs) ≡ Runs test fs
 named_runs test n g [] k = refl
 named_runs test n g (f ∷ fs) k = go (f.name == n)
@@ -119,6 +125,7 @@ named_runs test n g (f ∷ fs) k = go (f.name == n)
     go true = ap (λ (b : Body). test b || Runs test fs) (k.body f)
     go false = refl
 
+-- a switch to a thread leaves open the same kinds of frames, but for its base frame
 pub switched_runs : (test : Body → Bool) (n : ℕ) (t : ThreadNo) (st : Option ℕ) (fs : List Frame) → test (OnBase t) ≡ false → Runs test (switched_to n t st fs)
     ≡ Runs test fs
 switched_runs test n t st [] h = rw h refl
@@ -137,6 +144,7 @@ pub record Leaves (s : Script) (t : ThreadNo) (past : List Event) : Type 0 where
 
 -- ---- an event that the thread doesn't make
 
+-- an event that the thread doesn't make leaves its leaving as it was
 pub unnamed_leaving : (s : Script) (t : ThreadNo) (e : Event) (past : List Event) → is_by e t ≡ false → (facts s t (e ∷ past)).leaving
     ≡ (facts s t past).leaving
 unnamed_leaving s t e past b =
@@ -149,6 +157,7 @@ unnamed_leaving s t e past b =
         go true h = h
         go false h = refl
 
+-- an event that doesn't name a thread leaves its frames on its processor
 unnamed_frames : (s : Script) (t : ThreadNo) (e : Event) (past : List Event) → is_by e t ≡ false → thread_frames s (cpu_of s t) t (e ∷ past)
     ≡ thread_frames s (cpu_of s t) t past
 unnamed_frames s t e past b = go (is_of e (cpu_of s t)) refl
@@ -167,6 +176,7 @@ unnamed_ran s limit t e past b g h = go (is_of e (cpu_of s t)) refl
         unnamed_by s limit (cpu_of s t) t e past e.what refl b o g (sym (running_own (cpu_of s t) e past o) ∙ h)
     go false o = rw o at h
 
+-- an event that doesn't name the running thread leaves its noticed APC request unserved
 unnamed_unserved : (s : Script) (limit : ℕ) (t : ThreadNo) (e : Event) (past : List Event) → is_by e t ≡ false → IsLegal s limit e past → IsRun s limit past →
     running (cpu_of s t) past ≡ Some t → Unserved s (cpu_of s t) 1 past → Unserved s (cpu_of s t) 1 (e ∷ past)
 unnamed_unserved s limit t e past b g r run u = go (is_of e (cpu_of s t)) refl
@@ -189,6 +199,7 @@ unnamed_unserved s limit t e past b g r run u = go (is_of e (cpu_of s t)) refl
         let y : seen s (cpu_of s t) 1 (e ∷ past) ≡ seen s (cpu_of s t) 1 past = rw o in
         omega (arith, x, y, u)
 
+-- what holds of a leaving thread still holds after an event that it doesn't make
 pub leaves_unnamed : (s : Script) (limit : ℕ) (t : ThreadNo) (e : Event) (past : List Event) → has_thread s t ≡ true → is_by e t ≡ false →
     IsLegal s limit e past → IsRun s limit past → (facts s t past).leaving ≡ true → Leaves s t past → Leaves s t (e ∷ past)
 leaves_unnamed s limit t e past has b g r l ih =

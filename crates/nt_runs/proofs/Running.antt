@@ -39,38 +39,47 @@ pub record Keeps (g : Frame → Frame) : Type 0 where
   pub body : (f : Frame) → (g f).body ≡ f.body
   pub leaving : (f : Frame) → (g f).leaving ≡ f.leaving
 
+-- doing a command leaves what runs in its frame as it was
 pub done_body : (c : Command) (f : Frame) → (done_to c f).body ≡ f.body
 done_body (Raise l) f = refl
 done_body c f = refl
 
+-- doing a command keeps a frame's leaving mark
 done_leaving : (c : Command) (f : Frame) → (done_to c f).leaving ≡ f.leaving
 done_leaving (Raise l) f = refl
 done_leaving c f = refl
 
+-- a call leaves what runs in its frame as it was
 pub called_body : (due : Option ℕ) (c : Command) (y : Reply) (f : Frame) → (called due c y f).body ≡ f.body
 called_body due (StartWait m a) y f = refl
 called_body due (Delay m a u) y f = refl
 called_body due c Done f = done_body c f
 called_body due c y f = refl
 
+-- a call doesn't change whether its frame is leaving
 pub called_leaving : (due : Option ℕ) (c : Command) (y : Reply) (f : Frame) → (called due c y f).leaving ≡ f.leaving
 called_leaving due (StartWait m a) y f = refl
 called_leaving due (Delay m a u) y f = refl
 called_leaving due c Done f = done_leaving c f
 called_leaving due c y f = refl
 
+-- a call keeps what runs in a frame and whether its thread is leaving
 pub called_keeps : (due : Option ℕ) (c : Command) (y : Reply) → Keeps (called due c y)
 called_keeps due c y = record { body = called_body due c y; leaving = called_leaving due c y }
 
+-- taking up a wait again keeps what runs in a frame and whether its thread is leaving
 pub rewaited_keeps : (y : Reply) → Keeps (rewaited y)
 rewaited_keeps y = record { body = λ f. refl; leaving = λ f. refl }
 
+-- the release of a lock keeps what runs in a frame and whether its thread is leaving
 pub freed_keeps : Keeps freed
 freed_keeps = record { body = λ f. refl; leaving = λ f. refl }
 
+-- going on to the normal routine keeps what runs in a frame and whether its thread is leaving
 pub normal_keeps : Keeps normal_of
 normal_keeps = record { body = λ f. refl; leaving = λ f. refl }
 
+-- the end of a wait keeps what runs in a frame and whether its thread is leaving
 pub resumed_keeps : (st : Option ℕ) → Keeps (resumed st)
 resumed_keeps None = record { body = λ f. refl; leaving = λ f. refl }
 resumed_keeps (Some x) = record { body = λ f. refl; leaving = λ f. refl }
@@ -80,6 +89,7 @@ head_based : (t : ThreadNo) (g : Frame → Frame) (f : Frame) (fs : List Frame) 
 head_based t g f [] k h = k.body f ∙ h
 head_based t g f (x ∷ fs) k h = ((ap is_base_body (k.body f) ∙ h.0.0, k.leaving f ∙ h.0.1), h.1)
 
+-- a change by name that keeps what runs in frames keeps a thread's base frame
 named_based : (t : ThreadNo) (n : ℕ) (g : Frame → Frame) (fs : List Frame) → Keeps g → HasBase t fs → HasBase t (at_name n g fs)
 named_based t n g [] k h = h
 named_based t n g (f ∷ fs) k h = go (f.name == n)
@@ -93,12 +103,14 @@ begun_based : (t : ThreadNo) (f : Frame) (fs : List Frame) → IsInner f → Has
 begun_based t f [] i h = absurd h
 begun_based t f (g ∷ fs) i h = (i, h)
 
+-- ending the innermost frame keeps a thread's base frame
 ended_based : (t : ThreadNo) (fs : List Frame) → HasBase t fs → HasBase t (ended_on_thread fs)
 ended_based t [] h = h
 ended_based t (f ∷ []) h = subst (λ (b : Body). HasBase t (if is_base_body b then (ended_base f ∷ []) else [])) (sym h) h
 ended_based t (f ∷ (g ∷ fs)) h =
     subst (λ (b : Bool). HasBase t (if b then (ended_base f ∷ g ∷ fs) else (g ∷ fs))) (sym h.0.0) h.1
 
+-- ending the innermost frame by name keeps a thread's base frame
 end_based : (t : ThreadNo) (n : ℕ) (fs : List Frame) → HasBase t fs → HasBase t (end_on_thread n fs)
 end_based t n [] h = h
 end_based t n (f ∷ fs) h = go (f.name == n)
@@ -107,6 +119,7 @@ end_based t n (f ∷ fs) h = go (f.name == n)
     go true = ended_based t (f ∷ fs) h
     go false = h
 
+-- a flushed APC keeps a thread's base frame
 flushed_based : (t : ThreadNo) (n : ℕ) (a : ApcNo) (r : Option RoutineNo) (fs : List Frame) → HasBase t fs → HasBase t (flushed n a r fs)
 flushed_based t n a None fs h = h
 flushed_based t n a (Some r) fs h = begun_based t (new_frame n (OnRundown a)) fs (refl, refl) h
@@ -142,6 +155,7 @@ switched_based t n st (f ∷ fs) (inr h) = head_based t (resumed st) f fs (resum
 
 -- ---- the thread that an event names
 
+-- an event names as its thread the one that its processor runs, or the one that it takes up
 pub thread_named : (s : Script) (limit : ℕ) (e : Event) (past : List Event) → IsLegal s limit e past → e.thread ≡ thread_field e.what (running e.cpu past)
 thread_named s limit e past h = sym (ap (λ (f : Event). f.thread) (step_gives s limit e past h))
 
@@ -166,6 +180,7 @@ taken s limit p t past e h =
 abbrev Here : Script → CpuNo → ThreadNo → Type 0
 Here s p t = (has_thread s t ≡ true) × ((cpu_of s t).0 ≡ p.0)
 
+-- after an event of the processor, the running thread is a declared one of its own
 here_by : (s : Script) (limit : ℕ) (p : CpuNo) (t : ThreadNo) (e : Event) (past : List Event) (w : What) → e.what ≡ w → is_of e p ≡ true →
     IsLegal s limit e past → (running p past ≡ Some t → Here s p t) → running_after w (running p past) ≡ Some t → Here s p t
 here_by s limit p t e past (Switch u st) k own g ih h =
@@ -176,11 +191,13 @@ here_by s limit p t e past (Switch u st) k own g ih h =
     (rw (← same) a.0, rw (← same, ← here) a.1)
 here_by s limit p t e past w k own g ih h = ih (kept w (running p past) t refl h)
 
+-- after any legal event the running thread is a declared one of its own, if it was before
 here_after : (s : Script) (limit : ℕ) (p : CpuNo) (t : ThreadNo) (e : Event) (past : List Event) (b : Bool) → is_of e p ≡ b → IsLegal s limit e past →
     (running p past ≡ Some t → Here s p t) → (if b then running_after e.what (running p past) else running p past) ≡ Some t → Here s p t
 here_after s limit p t e past true k g ih x = here_by s limit p t e past e.what refl k g ih x
 here_after s limit p t e past false k g ih x = ih x
 
+-- in a run the thread that runs on a processor is declared and is one of the processor's own
 pub running_here : (s : Script) (limit : ℕ) (p : CpuNo) (t : ThreadNo) (past : List Event) → IsRun s limit past → running p past ≡ Some t → Here s p t
 running_here s limit p t [] r h = cc
 running_here s limit p t (e ∷ past) r h =
@@ -192,11 +209,13 @@ pub record Based (s : Script) (p : CpuNo) (t : ThreadNo) (past : List Event) : T
   pub or_none : (thread_frames s p t past ≡ []) ⊎ HasBase t (thread_frames s p t past)
   pub running : running p past ≡ Some t → HasBase t (thread_frames s p t past)
 
+-- where a thread is the given one by the test, it is that one
 pub same_thread : (o : Option ThreadNo) (t : ThreadNo) → is_thread o t ≡ true → o ≡ Some t
 same_thread None t h = cc
 same_thread (Some u) t h =
     let n : u.0 ≡ t.0 = eqb-true u.0 t.0 h in ap (λ (k : ℕ). Some (record { 0 = k })) n
 
+-- a thread is itself by the test
 pub not_itself : (t : ThreadNo) → is_thread (Some t) t ≡ false → ⊥
 not_itself t h = let k : (t.0 == t.0) ≡ true = eq-eqb t.0 t.0 refl in cc
 
@@ -230,13 +249,16 @@ unnamed_by s limit p t e past (Switch u st) k b own g x =
     absurd (not_itself t (subst (λ (o : Option ThreadNo). is_thread o t ≡ false) (named ∙ ap (λ (v : ThreadNo). Some v) same) b))
 unnamed_by s limit p t e past w k b own g x = kept w (running p past) t refl x
 
+-- an event that is of a processor by the test has that processor
 pub same_cpu : (e : Event) (p : CpuNo) → is_of e p ≡ true → e.cpu ≡ p
 same_cpu e p h =
     let n : e.cpu.0 ≡ p.0 = eqb-true e.cpu.0 p.0 h in ap (λ (k : ℕ). record { 0 = k }) n
 
+-- after an event of the processor, the running thread is the one that the event leaves
 pub running_own : (p : CpuNo) (e : Event) (past : List Event) → is_of e p ≡ true → running p (e ∷ past) ≡ running_after e.what (running p past)
 running_own p e past h = rw h
 
+-- case: an event of the processor names the thread; it still has its base frame where it runs
 based_named : (s : Script) (limit : ℕ) (p : CpuNo) (t : ThreadNo) (e : Event) (past : List Event) → is_of e p ≡ true → is_by e t ≡ true →
     IsLegal s limit e past → Based s p t past → Based s p t (e ∷ past)
 based_named s limit p t e past own b g ih =
@@ -250,6 +272,7 @@ based_named s limit p t e past own b g ih =
       running = λ x. subst (HasBase t) (sym moved) (k.1 (sym (running_own p e past own) ∙ x));
     }
 
+-- case: an event of the processor names another thread; this one's base frame stays
 based_unnamed : (s : Script) (limit : ℕ) (p : CpuNo) (t : ThreadNo) (e : Event) (past : List Event) → is_of e p ≡ true → is_by e t ≡ false →
     IsLegal s limit e past → Based s p t past → Based s p t (e ∷ past)
 based_unnamed s limit p t e past own b g ih =
@@ -259,6 +282,7 @@ based_unnamed s limit p t e past own b g ih =
       running = λ x. subst (HasBase t) (sym moved) (ih.running (unnamed_by s limit p t e past e.what refl b own g (sym (running_own p e past own) ∙ x)));
     }
 
+-- case: an event of another processor keeps the thread's base frame
 based_other : (s : Script) (p : CpuNo) (t : ThreadNo) (e : Event) (past : List Event) → is_of e p ≡ false → Based s p t past → Based s p t (e ∷ past)
 based_other s p t e past h ih =
     let moved : thread_frames s p t (e ∷ past) ≡ thread_frames s p t past = rw h in
@@ -268,12 +292,14 @@ based_other s p t e past h ih =
       running = λ x. subst (HasBase t) (sym moved) (ih.running (sym ran ∙ x));
     }
 
+-- a legal event keeps a thread's base frame, whoever makes it and whichever thread it names
 based_after : (s : Script) (limit : ℕ) (p : CpuNo) (t : ThreadNo) (e : Event) (past : List Event) (own by : Bool) → is_of e p ≡ own → is_by e t ≡ by →
     IsLegal s limit e past → Based s p t past → Based s p t (e ∷ past)
 based_after s limit p t e past true true o b g ih = based_named s limit p t e past o b g ih
 based_after s limit p t e past true false o b g ih = based_unnamed s limit p t e past o b g ih
 based_after s limit p t e past false by o b g ih = based_other s p t e past o ih
 
+-- in a run a thread has no frame or stands over its base frame, and if it runs it has its base
 pub based : (s : Script) (limit : ℕ) (p : CpuNo) (t : ThreadNo) (past : List Event) → IsRun s limit past → Based s p t past
 based s limit p t [] r = record { or_none = inl refl; running = λ x. none x }
   where
@@ -284,12 +310,14 @@ based s limit p t (e ∷ past) r =
 
 -- ---- the running thread's part
 
+-- the part of the running thread on a processor is that thread's own frames
 pub part_of_running : (s : Script) (p : CpuNo) (t : ThreadNo) (past : List Event) → has_thread s t ≡ true → running p past ≡ Some t →
     thread_part (frames_of s p past) ≡ thread_frames s p t past
 part_of_running s p t past h r =
     ap (λ (o : Option ThreadNo). option_map_or (frames_in (frames_of s p past).threads) o []) r
     ∙ get_or-table (length s.threads) t.0 (λ k. thread_frames s p (thread k) past) [] (ltb-true t.0 (length s.threads) h)
 
+-- in a run the running thread is a declared one of the processor, and its part stands over its base
 pub running_has_base : (s : Script) (limit : ℕ) (p : CpuNo) (t : ThreadNo) (past : List Event) → IsRun s limit past → running p past ≡ Some t →
     ((cpu_of s t).0 ≡ p.0) × (has_thread s t ≡ true) × HasBase t (thread_part (frames_of s p past))
 running_has_base s limit p t past r h =

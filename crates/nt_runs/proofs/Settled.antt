@@ -29,6 +29,7 @@ use Rattle.nt_event.proofs.Tables.{get_or-table}
 
 -- ---- what was noticed was asked
 
+-- what was asked of a class is at most the number of events
 pub asked_below : (s : Script) (p : CpuNo) (c : ℕ) (past : List Event) → asked s p c past ≤ length past
 asked_below s p c [] = omega arith
 asked_below s p c (e ∷ past) = go (asks s p c e past) (asked_below s p c past)
@@ -37,14 +38,17 @@ asked_below s p c (e ∷ past) = go (asks s p c e past) (asked_below s p c past)
     go true h = omega arith
     go false h = omega arith
 
+-- a value raised by a test doesn't fall, if it was at most the event's number
 raised_above : (b : Bool) (n old : ℕ) → old ≤ n → old ≤ raised b n old
 raised_above true n old h = omega arith
 raised_above false n old h = omega arith
 
+-- what was asked of a class never falls with an event
 pub asked_grows : (s : Script) (p : CpuNo) (c : ℕ) (e : Event) (past : List Event) → asked s p c past ≤ asked s p c (e ∷ past)
 asked_grows s p c e past =
     raised_above (asks s p c e past) (length past) (asked s p c past) (asked_below s p c past)
 
+-- a value that was asked is at most the greatest asked
 pub was_asked_below : (s : Script) (p : CpuNo) (c v : ℕ) (past : List Event) → was_asked s p c v past ≡ true → v ≤ asked s p c past
 was_asked_below s p c v [] h = cc
 was_asked_below s p c v (e ∷ past) h =
@@ -59,6 +63,7 @@ was_asked_below s p c v (e ∷ past) h =
     go true false e1 e2 x ih = let g = asked_grows s p c e past in let i = ih x in omega (arith, g, i)
     go false b e1 e2 x ih = let g = asked_grows s p c e past in let i = ih x in omega (arith, g, i)
 
+-- what a lane tells of a class is at most what was asked
 pub told_by_below : (s : Script) (x : Lane) (p : CpuNo) (c : ℕ) (past : List Event) → told_by s x p c past ≤ asked s p c past
 told_by_below s x p c [] = omega arith
 told_by_below s x p c (e ∷ past) =
@@ -71,6 +76,7 @@ told_by_below s x p c (e ∷ past) =
     go false true h k = omega arith
     go false false h k = h
 
+-- what several lanes tell of a class is at most what was asked
 pub told_below : (s : Script) (xs : List Lane) (p : CpuNo) (c : ℕ) (past : List Event) → told_by_all s xs p c past ≤ asked s p c past
 told_below s [] p c past = omega arith
 told_below s (x ∷ xs) p c past =
@@ -94,6 +100,7 @@ rises_asked s p k (suc i) (v ∷ vs) x past h =
     let e : k + suc i ≡ suc k + i = omega arith in
     rw e (rises_asked s p (suc k) i vs x past (both ((v == 0) || (nat_lt (value_at x.seen k) v && was_asked s p k v past)) _ h).1)
 
+-- what a legal look notices was asked for
 looked_asked : (s : Script) (limit : ℕ) (c : ℕ) (e : Event) (past : List Event) (w : What) → e.what ≡ w → IsLegal s limit e past →
     looked w c ≤ asked s e.cpu c past
 looked_asked s limit c e past (Look r) k g =
@@ -103,11 +110,13 @@ looked_asked s limit c e past (Look r) k g =
     rw zero_left at (rises_asked s e.cpu 0 c r.value (own_of s e.cpu past) past (both (list_any (λ v. nat_lt 0 v) r.value) _ good).1)
 looked_asked s limit c e past w k g = omega arith
 
+-- what is seen after an event is at most what is asked after it
 seen_after_below : (b : Bool) (n : ℕ) (w : What) (c old told asked : ℕ) → old ≤ asked → looked w c ≤ asked → told ≤ asked →
     seen_after n w c b told old ≤ raised b n asked
 seen_after_below true n w c old told asked h k l = omega arith
 seen_after_below false n w c old told asked h k l = omega (arith, h, k, l)
 
+-- in a run what a processor noticed of a class is at most what was asked
 pub seen_below : (s : Script) (limit : ℕ) (p : CpuNo) (c : ℕ) (past : List Event) → IsRun s limit past → seen s p c past ≤ asked s p c past
 seen_below s limit p c [] r = omega arith
 seen_below s limit p c (e ∷ past) r = go (is_of e p) refl (seen_below s limit p c past r.1)
@@ -122,6 +131,7 @@ seen_below s limit p c (e ∷ past) r = go (is_of e p) refl (seen_below s limit 
 
 -- ---- one processor is done
 
+-- a class rises in the look exactly where its asked value isn't seen yet
 class_seen : (seen asked : ℕ) → seen ≤ asked → nat_lt 0 (if nat_lt seen asked then asked else 0) ≡ not (seen == asked)
 class_seen seen asked h = go (nat_lt seen asked) refl
   where
@@ -141,10 +151,12 @@ class_seen seen asked h = go (nat_lt seen asked) refl
         let b : (seen == asked) ≡ true = eq-eqb seen asked n in
         rw b refl
 
+-- of two classes together, one rises exactly where not both are seen
 behind_step : (a b : Bool) (x y : Bool) → a ≡ not x → b ≡ not y → (a || b) ≡ not (x && y)
 behind_step a b true y h k = cc
 behind_step a b false y h k = rw h refl
 
+-- some class rises in a look exactly where not all are seen
 behind_from : (x : Own) (a : ℕ → ℕ) (k n : ℕ) → ((i : ℕ) → i < n → value_at x.seen (k + i) ≤ a (k + i)) →
     list_any (λ v. nat_lt 0 v) (table_from k n (look_value x a)) ≡ not (list_all (λ same. same) (table_from k n (λ c. value_at x.seen c == a c)))
 unfolding table_from
@@ -170,6 +182,7 @@ behind_seen s limit p past r = behind_from (own_of s p past) (λ c. asked s p c 
         let v : value_at (own_of s p past).seen i ≡ seen s p i past = get_or-table 16 i (λ c. seen s p c past) 0 l in
         rw (e, v) (seen_below s limit p i past r)
 
+-- a processor has no turn exactly where it is cut, or is still and has seen all that was asked
 turn_none : (cut behind rests seen : Bool) (t u : Turn) → behind ≡ not seen →
     is_none (when (not cut) (if behind then Some t else (if rests then None else Some u))) ≡ (cut || (rests && seen))
 turn_none true behind rests seen t u h = refl
@@ -196,14 +209,17 @@ robin_of_done s limit p past r =
 abbrev Done : Script → ℕ → List Event → ℕ → Type 0
 Done s limit past p = is_none (robin_of s limit (cpu p) past) ≡ true
 
+-- an option equal to none passes the test of absence
 none_of : {A : Type 0} (o : Option A) → o ≡ None → is_none o ≡ true
 none_of None h = refl
 none_of (Some x) h = cc
 
+-- an option that passes the test of absence is none
 of_none : {A : Type 0} (o : Option A) → is_none o ≡ true → o ≡ None
 of_none None h = refl
 of_none (Some x) h = cc
 
+-- where a first option, or else a second, is none, the first passes the test of absence and the second is none
 or_none : {A : Type 0} (a b : Option A) → option_or a b ≡ None → (is_none a ≡ true) × (b ≡ None)
 or_none None b h = (refl, h)
 or_none (Some x) b h = cc
@@ -223,6 +239,7 @@ up_step s limit past n p q ih a b false e d more false k =
     let m : robin_from s limit n (suc p) past ≡ None = rw k at more in
     ih (omega (arith, a, x)) m
 
+-- where a cycle of tries finds no turn, each processor from its start up that it reaches has none
 cycle_up : (s : Script) (limit : ℕ) (past : List Event) (n p q : ℕ) → p ≤ q → q < s.cpus → q < p + n → robin_from s limit n p past ≡ None → Done s limit past q
 cycle_up s limit past zero p q a b c h = absurd (omega (arith, a, c))
 cycle_up s limit past (suc n) p q a b c h =
@@ -242,6 +259,7 @@ round_step s limit past n p q ih a b c more false k =
     let m : robin_from s limit n (suc p) past ≡ None = rw k at more in
     ih (omega (arith, a, x)) m
 
+-- where a cycle of tries finds no turn, each processor below its start that it comes round to has none
 cycle_round : (s : Script) (limit : ℕ) (past : List Event) (n p q : ℕ) → p < s.cpus → q < p → q + s.cpus < n + p → robin_from s limit n p past ≡ None →
     Done s limit past q
 cycle_round s limit past zero p q a b c h = absurd (omega (arith, a, b, c))
@@ -249,6 +267,7 @@ cycle_round s limit past (suc n) p q a b c h =
     let k = or_none (robin_of s limit (cpu p) past) _ h in
     round_step s limit past n p q (λ l m. cycle_round s limit past n (suc p) q l (omega (arith, b)) (omega (arith, c)) m) a b c k.1 (suc p == s.cpus) refl
 
+-- where a full cycle of tries finds no turn, no processor has one
 cycle_all : (s : Script) (limit : ℕ) (past : List Event) (p q : ℕ) → p < s.cpus → q < s.cpus → robin_from s limit s.cpus p past ≡ None → Done s limit past q
 cycle_all s limit past p q a b h = go (nat_lt q p) refl
   where
@@ -257,6 +276,7 @@ cycle_all s limit past p q a b h = go (nat_lt q p) refl
     go false e =
         let l : p ≤ q = ltb-false q p e in cycle_up s limit past s.cpus p q l b (omega (arith, l, b)) h
 
+-- where no processor has a turn, a cycle of tries finds none
 cycle_none : (s : Script) (limit : ℕ) (past : List Event) (n p : ℕ) → p < s.cpus → ((q : ℕ) → q < s.cpus → Done s limit past q) → robin_from s limit n p past
     ≡ None
 cycle_none s limit past zero p a h = refl
@@ -265,6 +285,7 @@ cycle_none s limit past (suc n) p a h =
 
 -- ---- a settled history
 
+-- a table whose entries all pass has a passing entry at each place
 all_table : (k n : ℕ) (f : ℕ → Bool) → list_all (λ done. done) (table_from k n f) ≡ true → (i : ℕ) → i < n → f (k + i) ≡ true
 unfolding table_from
 all_table k zero f h i l = absurd (omega (arith, l))
@@ -272,6 +293,7 @@ all_table k (suc n) f h zero l = let e : k + 0 ≡ k = omega arith in rw e (both
 all_table k (suc n) f h (suc i) l =
     let e : k + suc i ≡ suc k + i = omega arith in rw e (all_table (suc k) n f (both (f k) _ h).1 i (omega (arith, l)))
 
+-- a table of which each place passes has entries that all pass
 table_all : (k n : ℕ) (f : ℕ → Bool) → ((i : ℕ) → i < n → f (k + i) ≡ true) → list_all (λ done. done) (table_from k n f) ≡ true
 unfolding table_from
 table_all k zero f h = refl
@@ -280,19 +302,23 @@ table_all k (suc n) f h =
     let here : f k ≡ true = rw e at (h 0 (omega arith)) in
     rw here (table_all (suc k) n f (λ i l. let e : k + suc i ≡ suc k + i = omega arith in rw e at (h (suc i) (omega (arith, l)))))
 
+-- in a run with a processor the first one to be tried is below their number
 first_below : (s : Script) (limit : ℕ) (past : List Event) → IsRun s limit past → 0 < s.cpus → first_cpu s past < s.cpus
 first_below s limit [] r h = h
 first_below s limit (e ∷ past) r h = cycle_below s e.cpu.0 (cpu_below s limit e past r.0)
 
+-- in a run in which the robin rule has no turn for any processor the history is settled
 settled_done : (s : Script) (limit : ℕ) (past : List Event) → IsRun s limit past → ((q : ℕ) → q < s.cpus → Done s limit past q) → is_settled s limit past ≡ true
 settled_done s limit past r h =
     table_all 0 s.cpus (λ p. is_done_with s limit (cpu p) past)
     (λ i l. let e : 0 + i ≡ i = omega arith in rw e (sym (robin_of_done s limit (cpu i) past r) ∙ h i l))
 
+-- in a run with a settled history the robin rule has no turn for any processor
 done_settled : (s : Script) (limit : ℕ) (past : List Event) → IsRun s limit past → is_settled s limit past ≡ true → (q : ℕ) → q < s.cpus → Done s limit past q
 done_settled s limit past r h q l =
     robin_of_done s limit (cpu q) past r ∙ (let e : 0 + q ≡ q = omega arith in rw e at (all_table 0 s.cpus (λ p. is_done_with s limit (cpu p) past) h q l))
 
+-- in a run the robin rule ends exactly where the history is settled
 pub robin_ends_settled : (s : Script) (limit : ℕ) (past : List Event) → IsRun s limit past → (robin s limit past ≡ None) ↔ (is_settled s limit past ≡ true)
 robin_ends_settled s limit past r = (there, back)
   where

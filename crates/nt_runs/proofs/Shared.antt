@@ -89,6 +89,7 @@ abbrev TaskIs : Own → Task → Type 0
 TaskIs x (Alone w) = Unit {0}
 TaskIs x (Shared j) = JobIs x j
 
+-- a task that must be done first has what is known of its job
 must_is : (x : Own) → Holds (TaskIs x) (must_task x)
 must_is x =
     holds_or (TaskIs x) (fire_task x) _ (holds_map (TaskIs x) (λ d. Shared (FireJob d)) x.fire (λ d e. tt))
@@ -98,6 +99,7 @@ must_is x =
     (λ k2. holds_or (TaskIs x) (when (may_apcs x) (Some (Shared ApcsJob))) _ (holds_when (TaskIs x) (may_apcs x) (Some (Shared ApcsJob)) (λ h. tt))
     (λ k3. holds_when (TaskIs x) (may_threaded x) (Some (Shared ThreadedJob)) (λ h. tt)))))
 
+-- where the task of a command is the job of a call, the call needs a lane
 call_is : (x : Own) (f : Frame) (c : Command) (r : Option Refusal) → TaskIs x (call_task f c r)
 call_is x f c (Some r) = tt
 call_is x f ToUser None = tt
@@ -107,10 +109,12 @@ call_is x f c None = lane (needs_lane c) refl
     lane true h = h
     lane false h = tt
 
+-- the task of the next command, if there is one, has what is known of its job
 command_is : (x : Own) (f : Frame) (o : Option Command) → Holds (TaskIs x) (command_task x f o)
 command_is x f None = tt
 command_is x f (Some c) = call_is x f c _
 
+-- the task that ends the innermost frame has what is known of its job: the kind of that frame
 end_is : (x : Own) (f : Frame) (n : ℕ) → innermost x.frames ≡ Some f → TaskIs x (end_task n f.body)
 end_is x f n h = go f.body refl
   where
@@ -119,6 +123,7 @@ end_is x f n h = go f.body refl
     go (OnApc a UserApc) e = (f, h, ap is_user_apc_body e)
     go b e = tt
 
+-- each task that the innermost frame gives has what is known of its job
 frame_is : (s : Script) (p : CpuNo) (x : Own) (f : Frame) → innermost x.frames ≡ Some f → Holds (TaskIs x) (frame_task s p x f)
 frame_is s p x f h =
     holds_or (TaskIs x) (rewait_task f) _ (holds_when (TaskIs x) (is_some f.again) (Some (Shared RewaitJob)) (λ e. tt))
@@ -128,6 +133,7 @@ frame_is s p x f h =
     (λ k4. holds_or (TaskIs x) (normal_task f) _ (holds_when (TaskIs x) (f.kernel_phase && has_normal f.body) (Some (Alone (Normal f.name))) (λ e. tt))
     (λ k3. end_is x f f.name h)))))
 
+-- the next task of a processor has what is known of its job
 task_is : (s : Script) (p : CpuNo) (x : Own) → Holds (TaskIs x) (task s p x)
 task_is s p x =
     holds_or (TaskIs x) (must_task x) _ (must_is x) (λ e. holds_when (TaskIs x) (not (waits_for_lock x)) (go_on_task s p x)
@@ -150,9 +156,11 @@ part_after s due e x t h r b =
     ∙ (get_or-table (length s.threads) t.0 (λ k. thread_if (is_by e (thread k)) s 0 due e.what (frames_in x.threads (thread k))) []
     (ltb-true t.0 (length s.threads) h) ∙ ap (λ (c : Bool). thread_if c s 0 due e.what (frames_in x.threads t)) b)
 
+-- where no thread runs, the part of the running thread is empty
 pub none_part : (x : Frames) → x.running ≡ None → thread_part x ≡ []
 none_part x h = ap (λ (o : Option ThreadNo). option_map_or (frames_in x.threads) o []) h
 
+-- the thread that runs passes the test of being that thread
 by_itself : (t : ThreadNo) (o : Option ThreadNo) → o ≡ Some t → is_thread o t ≡ true
 by_itself t o h = ap (λ (o : Option ThreadNo). is_thread o t) h ∙ eq-eqb t.0 t.0 refl
 
@@ -169,6 +177,7 @@ keeps_frames (Clean c) = true
 keeps_frames Rest = true
 keeps_frames w = false
 
+-- an expiry, a Fire, a Clean or a Rest leaves the own part
 kept_own : (w : What) (n : ℕ) (due : Option ℕ) (fs : List Frame) → keeps_frames w ≡ true → own_after n due w fs ≡ fs
 kept_own (Expire key from) n due fs h = refl
 kept_own (Fire d y) n due fs h = refl
@@ -176,6 +185,7 @@ kept_own (Clean c) n due fs h = refl
 kept_own Rest n due fs h = refl
 kept_own w n due fs h = cc
 
+-- an expiry, a Fire, a Clean or a Rest leaves each thread's frames
 kept_thread : (w : What) (b : Bool) (s : Script) (n : ℕ) (due : Option ℕ) (fs : List Frame) → keeps_frames w ≡ true → thread_if b s n due w fs ≡ fs
 kept_thread w false s n due fs h = refl
 kept_thread (Expire key from) true s n due fs h = refl
@@ -184,6 +194,7 @@ kept_thread (Clean c) true s n due fs h = refl
 kept_thread Rest true s n due fs h = refl
 kept_thread w true s n due fs h = cc
 
+-- an expiry, a Fire, a Clean or a Rest leaves the running thread
 kept_running : (w : What) (r : Option ThreadNo) → keeps_frames w ≡ true → running_after w r ≡ r
 kept_running (Expire key from) r h = refl
 kept_running (Fire d y) r h = refl
@@ -191,6 +202,7 @@ kept_running (Clean c) r h = refl
 kept_running Rest r h = refl
 kept_running w r h = cc
 
+-- an expiry, a Fire, a Clean or a Rest leaves all frames of its processor
 kept_frames : (s : Script) (p : CpuNo) (past : List Event) (e : Event) → keeps_frames e.what ≡ true → frames_after s 0 None e (frames_of s p past)
     ≡ frames_of s p past
 kept_frames s p past e h =
@@ -201,6 +213,7 @@ kept_frames s p past e h =
     t = table-same _ _ _ (λ k l. kept_thread e.what (is_by e (thread k)) s 0 None (frames_in (frames_of s p past).threads (thread k)) h
         ∙ get_or-table (length s.threads) k (λ k. thread_frames s p (thread k) past) [] l)
 
+-- an expiry, a Fire, a Clean or a Rest says the level that its processor has after it
 kept_tells : (s : Script) (p : CpuNo) (past : List Event) (w : What) → keeps_frames w ≡ true → Tells s p past w
 kept_tells s p past w h = go w h
   where
@@ -229,6 +242,7 @@ thread_runs x f h n = go x.running refl
         let b : head_of {A = Frame} [] ≡ Some f = subst (λ (fs : List Frame). head_of fs ≡ Some f) (none_part x e) a in
         cc
 
+-- where the own part is empty, the innermost frame is the head of the running thread's part
 pub part_head : (x : Frames) (f : Frame) → innermost x ≡ Some f → is_null x.own ≡ true → head_of (thread_part x) ≡ Some f
 part_head x f h n =
     sym (ap (λ (o : Option Frame). option_or o (head_of (thread_part x))) (null_head x.own n)) ∙ h
@@ -261,6 +275,7 @@ apc_tells s limit p past a from f r h n =
     let k = thread_runs (frames_of s p past) f h n in
     thread_level s limit p past k.0 (Begin (Apc a) from) r k.1 refl k.1 n
 
+-- where a processor is on a thread, it has an innermost frame
 pub on_thread_frame : (x : Frames) → is_on_thread x ≡ true → Comes (innermost x)
 on_thread_frame x h = go (thread_part x) refl
   where
@@ -274,6 +289,7 @@ on_thread_frame x h = go (thread_part x) refl
 
 -- ---- calls
 
+-- the command is a raise or a lower of the level
 raises : Command → Bool
 raises (Raise l) = true
 raises (Lower l) = true
@@ -304,16 +320,20 @@ halts_move (Acquire k) Spin h = cc
 halts_move (Unlock k) Done h = cc
 halts_move c y h = refl
 
+-- a call that stops the thread leaves no thread running
 halts_running : (f : ℕ) (c : Command) (y : Reply) (r : Option ThreadNo) → stops c y ≡ true → running_after (Call f c y) r ≡ None
 halts_running f c y r h = rw h refl
 
+-- a call that doesn't stop the thread leaves it running
 goes_running : (f : ℕ) (c : Command) (y : Reply) (r : Option ThreadNo) → stops c y ≡ false → running_after (Call f c y) r ≡ r
 goes_running f c y r h = if_none (stops c y) r h
 
+-- a call that stops the thread has PASSIVE_LEVEL as level after it
 halts_level : (st : Stand) (l : Lanes) (f : ℕ) (c : Command) (y : Reply) → stops c y ≡ true → acted_level st l (Call f c y) ≡ 0
 halts_level st l f c y h =
     ap (λ (m : LockMove). move_level st m (if stops c y then 0 else st.level)) (halts_move c y h) ∙ ap (λ (b : Bool). if b then 0 else st.level) h
 
+-- a call that moves no lock and doesn't stop the thread keeps the processor's level
 goes_level : (st : Stand) (l : Lanes) (f : ℕ) (c : Command) (y : Reply) → call_move c y ≡ NoMove → stops c y ≡ false → acted_level st l (Call f c y)
     ≡ st.level
 goes_level st l f c y m h =
@@ -330,10 +350,12 @@ halts_null s p x l n Yield Done k h = yield_call s p x l n k
 halts_null s p x l n c Blocked k h = (blocked_call s p x l n c k).1
 halts_null s p x l n c y k h = cc
 
+-- a change by name of a list of frames keeps whether it is empty
 named_null : (n : ℕ) (g : Frame → Frame) (fs : List Frame) → is_null (at_name n g fs) ≡ is_null fs
 named_null n g [] = refl
 named_null n g (f ∷ fs) = refl
 
+-- a call that touches a lane and moves no lock keeps the level of the named frame
 named_lane_level : (n : ℕ) (due : Option ℕ) (c : Command) (y : Reply) (fs : List Frame) → needs_lane c ≡ true → call_move c y ≡ NoMove →
     level_of (at_name n (called due c y) fs) ≡ level_of fs
 named_lane_level n due c y [] h m = refl
@@ -361,6 +383,7 @@ named_head_level n g i (f ∷ fs) h e =
     let named : (f.name == n) ≡ true = eq-eqb f.name n (ap (λ (x : Frame). x.name) same ∙ sym e) in
     rw named (ap (λ (z : Frame). (g z).level) same)
 
+-- after a change of the innermost frame by name, the level is the changed frame's
 inner_level : (s : Script) (limit : ℕ) (p : CpuNo) (past : List Event) (w : What) (n : ℕ) (g : Frame → Frame) (i : Frame) → IsRun s limit past →
     innermost (frames_of s p past) ≡ Some i → n ≡ i.name → thread_field w (running p past) ≡ running p past →
     running_after w (running p past) ≡ running p past → own_after 0 None w (own_frames p past) ≡ at_name n g (own_frames p past) →
@@ -440,6 +463,7 @@ still_tells s limit p past n c y r k lane m = go (stops c y) (is_null (own_frame
         own_call_level n c y (frames_of s p past) (frames_after s 0 None (unleveled p (Call n c y) (frames_of s p past)) (frames_of s p past))
         (own_frames p past) refl refl e lane m ∙ sym (goes_level (stand_at s p past) (lanes_at s past) n c y m a)
 
+-- in a run a known call that needs a lane says the level after it
 call_tells : (s : Script) (limit : ℕ) (p : CpuNo) (past : List Event) (n : ℕ) (c : Command) (y : Reply) → IsRun s limit past →
     KnownCall s p (own_of s p past) (lanes_at s past) n c y → needs_lane c ≡ true → Tells s p past (Call n c y)
 call_tells s limit p past n c y r k lane = either (call_move c y) refl
@@ -468,6 +492,7 @@ call_tells s limit p past n c y r k lane = either (call_move c y) refl
 
 -- ---- a wait that is taken up again
 
+-- in a run a known take-up of a wait says the level after it
 rewait_tells : (s : Script) (limit : ℕ) (p : CpuNo) (past : List Event) (n : ℕ) (y : Reply) → IsRun s limit past →
     KnownRewait p (own_of s p past) (lanes_at s past) n y → Tells s p past (Rewait n y)
 rewait_tells s limit p past n y r k = go (is_blocked y) refl
@@ -502,6 +527,7 @@ not_own s p past f h b = go (own_frames p past) refl (all_own p past)
         let yes : is_own_body f.body ≡ true = ap (λ (g : Frame). is_own_body g.body) (sym same) ∙ o.0.0 in
         absurd (both_ways (is_own_body f.body) b yes)
 
+-- an empty own part stays empty when a frame is taken out by name
 without_null : (n : ℕ) (fs : List Frame) → is_null fs ≡ true → is_null (without n fs) ≡ true
 without_null n [] h = refl
 without_null n (f ∷ fs) h = cc
@@ -520,10 +546,12 @@ end_level t n f (g ∷ (x ∷ fs)) h e b =
     let named : (g.name == n) ≡ true = eq-eqb g.name n (ap (λ (x : Frame). x.name) same ∙ sym e) in
     rw (named, b.0.0) refl
 
+-- where the own part is empty, the level after an end is that of the frames under the thread's innermost
 after_null : (x : Frames) → is_null x.own ≡ true → ended_level_in x ≡ first_level [] (tail_of (thread_part x))
 after_null x h =
     ap (λ (b : Bool). if b then first_level [] (tail_of (thread_part x)) else first_level (tail_of x.own) (thread_part x)) h
 
+-- in a run the end of an innermost frame off the own part says the level after it
 end_tells : (s : Script) (limit : ℕ) (p : CpuNo) (past : List Event) (n : ℕ) (f : Frame) → IsRun s limit past → innermost (frames_of s p past) ≡ Some f → n
     ≡ f.name → is_own_body f.body ≡ false → Tells s p past (End n)
 end_tells s limit p past n f r h e own =
@@ -533,16 +561,19 @@ end_tells s limit p past n f r h e own =
     thread_level s limit p past t.0 (End n) r t.1 refl t.1 (without_null n (own_frames p past) null)
     ∙ (end_level t.0 n f (thread_part (frames_of s p past)) (part_head (frames_of s p past) f h null) e b.2 ∙ sym (after_null (frames_of s p past) null))
 
+-- what runs in a base frame is no body of a processor's own part
 pub base_not_own : (b : Body) → is_base_body b ≡ true → is_own_body b ≡ false
 base_not_own (OnBase t) h = refl
 base_not_own b h = cc
 
+-- the body of a user APC isn't one of the own part
 user_not_own : (b : Body) → is_user_apc_body b ≡ true → is_own_body b ≡ false
 user_not_own (OnApc a UserApc) h = refl
 user_not_own b h = cc
 
 -- ---- the thread's end
 
+-- where the innermost frame is leaving, the processor's own part is empty
 pub leaving_null : (s : Script) (p : CpuNo) (past : List Event) (f : Frame) → innermost (frames_of s p past) ≡ Some f → f.leaving ≡ true →
     is_null (own_frames p past) ≡ true
 leaving_null s p past f h l = go (own_frames p past) refl (all_own p past)
@@ -556,10 +587,12 @@ leaving_null s p past f h l = go (own_frames p past) refl (all_own p past)
         let no : f.leaving ≡ false = ap (λ (g : Frame). g.leaving) (sym same) ∙ o.0.1 in
         absurd (both_ways f.leaving no l)
 
+-- a flush from PASSIVE_LEVEL leaves the level
 flush_level : (n : ℕ) (a : ApcNo) (o : Option RoutineNo) (fs : List Frame) → level_of fs ≡ 0 → level_of (flushed n a o fs) ≡ 0
 flush_level n a None fs h = h
 flush_level n a (Some r) fs h = refl
 
+-- in a run a known flush of an APC says the level after it
 flush_tells : (s : Script) (limit : ℕ) (p : CpuNo) (past : List Event) (a : ApcNo) (from : ℕ) (t : ThreadNo) → IsRun s limit past →
     KnownRundown (own_of s p past) t → Tells s p past (Flush a from)
 flush_tells s limit p past a from t r k =
@@ -571,21 +604,25 @@ flush_tells s limit p past a from t r k =
     (subst AllCalm (sym part) (all_calm s limit p t past r)) in
     thread_level s limit p past t (Flush a from) r k.thread refl k.thread null ∙ flush_level 0 a (rundown_of s a) (thread_part (frames_of s p past)) low
 
+-- a thread that is gone says the level after it
 gone_tells : (s : Script) (p : CpuNo) (past : List Event) (t : ThreadNo) → KnownRundown (own_of s p past) t → Tells s p past (Gone t)
 gone_tells s p past t k =
     stop_level s p past (Gone t) refl (leaving_null s p past k.frame k.goes_on.inner k.leaving)
 
 -- ---- a thread is taken up
 
+-- a switch to a thread leaves the level of its frames
 switched_level : (n : ℕ) (t : ThreadNo) (st : Option ℕ) (fs : List Frame) → level_of (switched_to n t st fs) ≡ level_of fs
 switched_level n t st [] = refl
 switched_level n t None (f ∷ fs) = refl
 switched_level n t (Some x) (f ∷ fs) = refl
 
+-- a ready thread's frames have the level that its doing says
 ready_level : (d : Doing) (fs : List Frame) (runs : Type 0) → ready_doing d ≡ true → Says d fs runs → level_of fs ≡ doing_level d
 ready_level (IsReady level st) fs runs h k = sym k.1
 ready_level d fs runs h k = cc
 
+-- in a run a switch that may be made says the level after it
 switch_tells : (s : Script) (limit : ℕ) (p : CpuNo) (past : List Event) (t : ThreadNo) → IsRun s limit past → may_switch (own_of s p past) ≡ true →
     may_take s p t (lanes_at s past) ≡ true → Tells s p past (switch_event t (lanes_at s past))
 switch_tells s limit p past t r may take =
@@ -610,14 +647,17 @@ switch_tells s limit p past t r may take =
 
 -- ---- the jobs
 
+-- the begin of a DPC says the level after it
 dpc_tells : (s : Script) (p : CpuNo) (past : List Event) (part : Part) (i : Insert) → Tells s p past (begin_dpc part i)
 dpc_tells s p past OrdinaryPart i = refl
 dpc_tells s p past ThreadedPart i = refl
 
+-- the begin of the first DPC of a part says the level after it
 first_tells : (s : Script) (p : CpuNo) (past : List Event) (part : Part) → Holds (Tells s p past) (begin_first part (queue_at (lanes_at s past) p))
 first_tells s p past part =
     holds_map (Tells s p past) (begin_dpc part) (first_dpc part (queue_at (lanes_at s past) p).pending) (λ i e. dpc_tells s p past part i)
 
+-- the event of a processor that idles says the level after it
 idle_tells : (s : Script) (p : CpuNo) (past : List Event) → Holds (Tells s p past) (idle_event s (stand_at s p past) (lanes_at s past))
 idle_tells s p past =
     holds_or (Tells s p past) (begin_first OrdinaryPart (queue_at (lanes_at s past) p)) (when (is_null (ready s p (lanes_at s past))) (Some Rest))
@@ -628,10 +668,12 @@ idle_tells s p past =
 abbrev KnownTells : Script → CpuNo → List Event → What → Type 0
 KnownTells s p past w = Known s p (own_of s p past) (lanes_at s past) w → Tells s p past w
 
+-- where a property holds of an option and implies another there, the other holds of it
 holds_apply : {A : Type 0} (P Q : A → Type 0) (o : Option A) → Holds P o → Holds (λ x. P x → Q x) o → Holds Q o
 holds_apply P Q None h k = tt
 holds_apply P Q (Some x) h k = k h
 
+-- in a run the known begin of an APC says the level after it
 begin_tells : (s : Script) (limit : ℕ) (p : CpuNo) (past : List Event) (a : ApcNo) (from : ℕ) → IsRun s limit past →
     KnownBegin s p (own_of s p past) (lanes_at s past) (Apc a) from → Tells s p past (Begin (Apc a) from)
 begin_tells s limit p past a from r (inl b) =
@@ -641,6 +683,7 @@ begin_tells s limit p past a from r (inl b) =
 begin_tells s limit p past a from r (inr b) =
     apc_tells s limit p past a from b.0.frame r b.0.goes_on.inner (touser_low s p (own_of s p past) b.0).1
 
+-- the innermost frame's name is the one at which the processor stands
 named_stand : (s : Script) (p : CpuNo) (past : List Event) (f : Frame) → innermost (frames_of s p past) ≡ Some f → (stand_at s p past).frame ≡ f.name
 named_stand s p past f h = ap (λ (o : Option Frame). option_map_or (λ f. f.name) o 0) h
 
@@ -697,11 +740,13 @@ task_tells s limit p past j r h =
     holds_apply (Known s p x (lanes_at s past)) (Tells s p past) (job_event s (stand_at s p past) (lanes_at s past) j) known
     (next_job_tells s limit p past j r chosen is)
 
+-- in a run the event of the job of a switch says the level after it
 switch_job_tells : (s : Script) (limit : ℕ) (p : CpuNo) (past : List Event) (t : ThreadNo) → IsRun s limit past → may_switch (own_of s p past) ≡ true →
     Holds (Tells s p past) (job_event s (stand_at s p past) (lanes_at s past) (SwitchJob t))
 switch_job_tells s limit p past t r may =
     holds_when (Tells s p past) (may_take s p t (lanes_at s past)) (Some (switch_event t (lanes_at s past))) (λ h. switch_tells s limit p past t r may h)
 
+-- in a run the event of the job of picking a thread says the level after it
 pick_job_tells : (s : Script) (limit : ℕ) (p : CpuNo) (past : List Event) (last : Option ThreadNo) → IsRun s limit past → may_switch (own_of s p past) ≡ true →
     Holds (Tells s p past) (job_event s (stand_at s p past) (lanes_at s past) (PickJob last))
 pick_job_tells s limit p past last r may =
@@ -711,6 +756,7 @@ pick_job_tells s limit p past last r may =
     (λ t e. switch_tells s limit p past t r may (holds_at (λ t. may_take s p t l ≡ true) (next_ready s p last l) t (next_ready_taken s p last l) e)))
     (λ e. idle_tells s p past)
 
+-- in a run the event of a job that is due says the level after it
 job_tells : (s : Script) (limit : ℕ) (p : CpuNo) (past : List Event) (j : Job) → IsRun s limit past → IsDue s p (own_of s p past) j →
     Holds (Tells s p past) (job_event s (stand_at s p past) (lanes_at s past) j)
 job_tells s limit p past j r (inl a) = task_tells s limit p past j r a
@@ -718,6 +764,7 @@ job_tells s limit p past (SwitchJob t) r (inr a) = switch_job_tells s limit p pa
 job_tells s limit p past (PickJob last) r (inr a) = pick_job_tells s limit p past last r a.1
 job_tells s limit p past j r (inr a) = cc
 
+-- the event of a job that is due is the one that the processor's frames give
 pub events_agree : (s : Script) (limit : ℕ) (p : CpuNo) (j : Job) (w : What) (past : List Event) → IsRun s limit past → IsDue s p (own_of s p past) j →
     job_event s (stand_at s p past) (lanes_at s past) j ≡ Some w → event_at s p w (frames_of s p past) ≡ acted_event (stand_at s p past) (lanes_at s past) w
 events_agree s limit p j w past r a h =

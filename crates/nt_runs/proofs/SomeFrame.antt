@@ -50,27 +50,33 @@ use Rattle.nt_event.specs.Routines.{rundown_of}
 use Rattle.nt_event.specs.Calls.{stops}
 use Rattle.nt_runs.specs.SomeFrame.{some_frame, on_frame}
 
+-- where neither of two tests holds, their or fails
 or_falses : (a b : Bool) → a ≡ false → b ≡ false → (a || b) ≡ false
 or_falses true b h k = cc
 or_falses false b h k = k
 
+-- a disjunction with a false second part is its first part
 pub or_only : (a b : Bool) → b ≡ false → (a || b) ≡ a
 or_only true b h = refl
 or_only false b h = h
 
+-- a test that fails on no locks and no spin fails on a clear frame
 clear_test : (U : List Held → Option Held → Bool) → U [] None ≡ false → (f : Frame) → Clear f → on_frame U f ≡ false
 clear_test U z f h = ap (λ (hs : List Held). U hs f.spin) h.0 ∙ (ap (λ (o : Option Held). U [] o) h.1 ∙ z)
 
+-- where each frame holds no lock and spins on none, no frame passes a test of locks
 pub any_clear : (U : List Held → Option Held → Bool) → U [] None ≡ false → (fs : List Frame) → Each Clear fs → list_any (on_frame U) fs ≡ false
 any_clear U z [] h = refl
 any_clear U z (f ∷ fs) h = or_falses (on_frame U f) (list_any (on_frame U) fs) (clear_test U z f h.0) (any_clear U z fs h.1)
 
 -- ---- an event that moves no lock leaves clear frames clear
 
+-- a frame that comes back from a wait stays without locks and spins
 resumed_clear : (st : Option ℕ) (f : Frame) → Clear f → Clear (resumed st f)
 resumed_clear None f h = h
 resumed_clear (Some x) f h = h
 
+-- the end of a thread's innermost frame leaves all frames without locks and spins
 end_clear : (n : ℕ) (fs : List Frame) → Each Clear fs → Each Clear (end_on_thread n fs)
 end_clear n [] h = h
 end_clear n (f ∷ fs) h = go (f.name == n) (is_base_body f.body)
@@ -80,14 +86,17 @@ end_clear n (f ∷ fs) h = go (f.name == n) (is_base_body f.body)
     go true false = h.1
     go false c = h
 
+-- a flushed APC leaves all frames without locks and spins
 flushed_clear : (n : ℕ) (a : ApcNo) (o : Option RoutineNo) (fs : List Frame) → Each Clear fs → Each Clear (flushed n a o fs)
 flushed_clear n a None fs h = h
 flushed_clear n a (Some r) fs h = ((refl, refl), h)
 
+-- a switch to a thread leaves all its frames without locks and spins
 switched_clear : (n : ℕ) (t : ThreadNo) (st : Option ℕ) (fs : List Frame) → Each Clear fs → Each Clear (switched_to n t st fs)
 switched_clear n t st [] h = ((refl, refl), tt)
 switched_clear n t st (f ∷ fs) h = (resumed_clear st f h.0, h.1)
 
+-- an event that moves no lock leaves a thread's frames without locks and spins
 clear_after : (s : Script) (n : ℕ) (due : Option ℕ) (w : What) (fs : List Frame) → lock_move w ≡ NoMove → Each Clear fs → Each Clear (thread_after s n due w fs)
 clear_after s n due (Switch t st) fs m h = switched_clear n t st fs h
 clear_after s n due (Begin (Apc a) from) fs m h = ((refl, refl), h)
@@ -100,6 +109,7 @@ clear_after s n due (Free f k) fs m h = cc
 clear_after s n due (Gone t) fs m h = tt
 clear_after s n due w fs m h = h
 
+-- an event that moves no lock leaves the own part without locks and spins
 clear_own_after : (n : ℕ) (due : Option ℕ) (w : What) (gs : List Frame) → lock_move w ≡ NoMove → Each Clear gs → Each Clear (own_after n due w gs)
 clear_own_after n due (Begin (Int c) from) gs m h = ((refl, refl), h)
 clear_own_after n due (Begin (Dpc d) from) gs m h = ((refl, refl), h)
@@ -117,6 +127,7 @@ abbrev Heads : ℕ → Frame → List Frame → Type 0
 Heads n i [] = Unit {0}
 Heads n i (f ∷ fs) = f.name ≡ n → f ≡ i
 
+-- a change by name that keeps the test of locks on its frame keeps whether some frame passes
 any_named : (U : List Held → Option Held → Bool) (n : ℕ) (g : Frame → Frame) (i : Frame) (fs : List Frame) → Heads n i fs → on_frame U (g i) ≡ on_frame U i →
     list_any (on_frame U) (at_name n g fs) ≡ list_any (on_frame U) fs
 any_named U n g i [] h e = refl
@@ -128,6 +139,7 @@ any_named U n g i (f ∷ fs) h e = go (f.name == n) refl
         ap (λ (b : Bool). b || list_any (on_frame U) fs) (ap (λ (z : Frame). on_frame U (g z)) same ∙ (e ∙ ap (λ (z : Frame). on_frame U z) (sym same)))
     go false q = refl
 
+-- taking out a frame on which the test of locks fails keeps whether some frame passes
 any_without : (U : List Held → Option Held → Bool) (n : ℕ) (i : Frame) (fs : List Frame) → Heads n i fs → on_frame U i ≡ false →
     list_any (on_frame U) (without n fs) ≡ list_any (on_frame U) fs
 any_without U n i [] h e = refl
@@ -140,6 +152,7 @@ any_without U n i (f ∷ fs) h e = go (f.name == n) refl
         sym (ap (λ (b : Bool). b || list_any (on_frame U) fs) none)
     go false q = refl
 
+-- the end of a thread's frame on which the test of locks fails keeps whether some frame passes
 any_end : (U : List Held → Option Held → Bool) (n : ℕ) (i : Frame) (fs : List Frame) → Heads n i fs → on_frame U i ≡ false → on_frame U (ended_base i) ≡ false →
     list_any (on_frame U) (end_on_thread n fs) ≡ list_any (on_frame U) fs
 any_end U n i [] h e e2 = refl
@@ -158,6 +171,7 @@ any_end U n i (f ∷ fs) h e e2 = go (f.name == n) (is_base_body f.body) refl
         sym (ap (λ (b : Bool). b || list_any (on_frame U) fs) none)
     go false c q = refl
 
+-- the head of the own part is the innermost frame where it has its name
 own_heads : (x : Own) (n : ℕ) (i : Frame) → innermost x.frames ≡ Some i → Heads n i x.frames.own
 own_heads x n i h = go x.frames.own refl
   where
@@ -171,6 +185,7 @@ own_heads x n i h = go x.frames.own refl
         same : option_or (head_of (g ∷ gs)) (head_of (thread_part x.frames)) ≡ Some i → g ≡ i
         same e = cc
 
+-- the head of the thread's part is the innermost frame where it has its name
 part_heads : (x : Own) (n m : ℕ) (i : Frame) (fs : List Frame) → innermost x.frames ≡ Some i → n ≡ i.name → thread_part x.frames ≡ fs →
     Named m x.frames.own fs → Heads n i fs
 part_heads x n m i [] h e k d = tt
@@ -178,6 +193,7 @@ part_heads x n m i (f ∷ fs) h e k d = λ q. sym (head_is x n m i f fs h e k d 
 
 -- ---- calls
 
+-- two commands that are equal as present options are equal
 same_some : (a b : Command) → ◌≡◌ {A = Option Command} (Some a) (Some b) → a ≡ b
 same_some a b e = cc
 
@@ -225,9 +241,11 @@ leaves_threads w = false
 
 module _ (s : Script) (limit : ℕ) (p : CpuNo) (e : Event) (past : List Event) (o : is_of e p ≡ true) (g : IsLegal s limit e past) (r : IsRun s limit past)
     (h : Parted s p past) (U : List Held → Option Held → Bool) (z : U [] None ≡ false) where
+  -- an event of the processor that is a next one is known by the tests of its case
   pub know : (w : What) → e.what ≡ w → is_next w ≡ true → Known s p (own_of s p past) (lanes_at s past) w
   know w k n = known_of s limit p e past o g w k n
 
+  -- the own part after an event of the processor is what the event leaves of it
   pub own_next : own_frames p (e ∷ past) ≡ own_after (length past) (due_of e.what (time past)) e.what (own_frames p past)
   own_next = rw o
 
@@ -253,6 +271,7 @@ module _ (s : Script) (limit : ℕ) (p : CpuNo) (e : Event) (past : List Event) 
           (thread_frames s p t past) = frames_when s p t e past (is_by e t) o refl in
           a ∙ (c ∙ (each t q ∙ ap F (sym b)))
 
+  -- where the running thread stays, its part after the event is the change that the event makes of it
   pub part_named : (F : List Frame → List Frame) → F [] ≡ [] → running_after e.what (running p past) ≡ running p past →
       thread_field e.what (running p past) ≡ running p past →
       ((fs : List Frame) → thread_after s (length past) (due_of e.what (time past)) e.what fs ≡ F fs) →
@@ -301,6 +320,7 @@ module _ (s : Script) (limit : ℕ) (p : CpuNo) (e : Event) (past : List Event) 
   heads_own : (n : ℕ) (i : Frame) → innermost (frames_of s p past) ≡ Some i → Heads n i (own_frames p past)
   heads_own n i k = own_heads (own_of s p past) n i k
 
+  -- the frames of the own part and of the running thread's part have different names, of earlier events
   pub named_in : Named (length past) (own_frames p past) (thread_part (frames_of s p past))
   named_in = go (running p past) refl
     where

@@ -17,10 +17,12 @@ use Rattle.nt_event.specs.Replies.{alerted, is_spin, is_user, kernel_apc, satisf
 use Rattle.nt_event.specs.Threads.{ThreadFacts, is_alerted}
 use Rattle.nt_event.specs.Waits.{is_satisfied, wait_reply}
 
+-- an answer of yes or no is never a spin
 yes_spins : {A : Type 0} (b : Bool) → Spin ≡ yes_if b → A
 yes_spins true h = cc
 yes_spins false h = cc
 
+-- the reply to a wait is no spin
 wait_spins : (x : ThreadFacts) (r : Regions) (level : ℕ) (m : Mode) (a : Bool) (o : Option Bool) → is_spin (wait_reply x r level m a o) ≡ false
 wait_spins x r level m a o =
     ifs (is_some (deliverable x.apcs r level)) (is_satisfied x o) (a && is_alerted m x) (a && (is_user m && has_user x.apcs)) (a && x.alerted_kernel)
@@ -36,10 +38,12 @@ wait_spins x r level m a o =
     ifs false false false false false true = refl
     ifs false false false false false false = refl
 
+-- a reply that isn't a spin is never equal to one
 no_wait_spin : {A : Type 0} (y : Reply) → is_spin y ≡ false → Spin ≡ y → A
 no_wait_spin Spin q h = cc
 no_wait_spin y q h = cc
 
+-- a call that is answered by spinning is an acquire
 pub spin_acquires : (s : Script) (st : Stand) (l : Lanes) (c : Command) → Spin ≡ reply s st l c → (x : LockNo) × (c ≡ Acquire x)
 spin_acquires s st l (Acquire x) h = (x, refl)
 spin_acquires s st l (StartWait m a) h = no_wait_spin _ (wait_spins (facts_of l st.thread) st.regions st.level m a None) h

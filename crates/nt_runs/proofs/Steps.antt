@@ -25,10 +25,12 @@ use Rattle.nt_event.proofs.Options.{when_gives}
 abbrev pub Gives : Result Event ScheduleKind → Event → Type 0
 Gives r e = r ≡ Ok e
 
+-- a guarded step that gives an event is not refused by its guard and gives the event inside
 pub refused_gives : (b : Bool) (k : ScheduleKind) (r : Result Event ScheduleKind) (e : Event) → Gives (refused_if b k r) e → (b ≡ false) × Gives r e
 refused_gives true k r e h = cc
 refused_gives false k r e h = (refl, h)
 
+-- where an event is given or else an error, there is something to do and the event is made of it
 pub event_gives : (s : Script) (p : CpuNo) (x : Own) (k : ScheduleKind) (o : Option What) (e : Event) → Gives (event_or s p x k o) e → (w : What) ×
     (o ≡ Some w) × (event_at s p w x.frames ≡ e)
 event_gives s p x k None e h = cc
@@ -83,6 +85,7 @@ pub named : (s : Script) (p : CpuNo) (w : What) (x : Frames) (e : Event) → eve
 named s p w x e h =
     ap (λ (v : What). event_at s p v x) (sym (ap (λ (f : Event). f.what) h)) ∙ h
 
+-- an event that a step gives is made of its turn's processor and of the frames there
 pub turn_gives : (s : Script) (limit : ℕ) (t : Turn) (past : List Event) (e : Event) → Gives (step s limit t past) e →
     event_at s (cpu_at t) e.what (frames_of s (cpu_at t) past) ≡ e
 turn_gives s limit (Next p) past e h =
@@ -92,6 +95,7 @@ turn_gives s limit (SwitchTurn p t) past e h =
 turn_gives s limit (LookTurn p r) past e h =
     named s p (Look r) (frames_of s p past) e (look_gives s limit p r past e h).1
 
+-- the turn of what a processor does is a turn of that processor
 pub cpu_at-turn_at : (p : CpuNo) (w : What) → cpu_at (turn_at p w) ≡ p
 cpu_at-turn_at p (Look r) = refl
 cpu_at-turn_at p (Switch t st) = refl

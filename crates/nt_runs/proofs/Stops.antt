@@ -39,14 +39,17 @@ is_wait (StartWait m a) = true
 is_wait (Delay m a u) = true
 is_wait c = false
 
+-- an answer of yes or no never blocks
 yes_blocked : (b : Bool) → yes_if b ≡ Blocked → ⊥
 yes_blocked true h = cc
 yes_blocked false h = cc
 
+-- a lock's answer of done or spin never blocks
 spin_blocked : (b : Bool) → (if b then Done else Spin) ≡ Blocked → ⊥
 spin_blocked true h = cc
 spin_blocked false h = cc
 
+-- a command whose reply blocks is a wait or a delay
 reply_blocked : (s : Script) (st : Stand) (l : Lanes) (c : Command) → reply s st l c ≡ Blocked → is_wait c ≡ true
 reply_blocked s st l (StartWait m a) h = refl
 reply_blocked s st l (Delay m a u) h = refl
@@ -69,16 +72,19 @@ is_thread_call (Delay m a u) = true
 is_thread_call Yield = true
 is_thread_call c = false
 
+-- a test that refuses nothing found its condition false
 pub refuse_none : (b : Bool) (r : Refusal) (o : Option Refusal) → refuse b r o ≡ None → b ≡ false
 refuse_none true r o h = cc
 refuse_none false r o h = refl
 
+-- an accepted wait, delay or yield is called on a thread's part
 accepted_on_thread : (level : ℕ) (own : Bool) (r : Regions) (f : Frame) (c : Command) → is_thread_call c ≡ true → refusal level own r f c ≡ None → own ≡ false
 accepted_on_thread level own r f (StartWait m a) k h = refuse_none own NotThread _ h
 accepted_on_thread level own r f (Delay m a u) k h = refuse_none own NotThread _ h
 accepted_on_thread level own r f Yield k h = refuse_none own NotThread _ h
 accepted_on_thread level own r f c k h = cc
 
+-- a wait or delay is a call that a thread makes
 wait_is_thread_call : (c : Command) → is_wait c ≡ true → is_thread_call c ≡ true
 wait_is_thread_call (StartWait m a) h = refl
 wait_is_thread_call (Delay m a u) h = refl
@@ -89,10 +95,12 @@ not_refused : (o : Option Refusal) (y z : Reply) → y ≡ reply_or o z → is_r
 not_refused None y z e h = (refl, e)
 not_refused (Some r) y z e h = let k : is_refused (Refused r) ≡ false = subst (λ (v : Reply). is_refused v ≡ false) e h in cc
 
+-- a call that isn't refused is answered as its reply says, and its command isn't refused in its frame
 pub call_accepted : (s : Script) (p : CpuNo) (x : Own) (l : Lanes) (n : ℕ) (c : Command) (y : Reply) → (k : KnownCall s p x l n c y) → is_refused y ≡ false →
     (refusal_in x k.frame c ≡ None) × (y ≡ reply s (stand_in p x) l c)
 call_accepted s p x l n c y k h = not_refused (refusal_in x k.frame c) y (reply s (stand_in p x) l c) k.reply h
 
+-- a truth value whose negation is false is true
 pub null_of : (b : Bool) → not b ≡ false → b ≡ true
 null_of true h = refl
 null_of false h = cc
@@ -108,6 +116,7 @@ blocked_call s p x l n c k =
           (wait_is_thread_call c w) a.0),
     )
 
+-- an accepted yield is made with an empty own part
 pub yield_call : (s : Script) (p : CpuNo) (x : Own) (l : Lanes) (n : ℕ) → KnownCall s p x l n Yield Done → is_null x.frames.own ≡ true
 yield_call s p x l n k =
     let a = call_accepted s p x l n Yield Done k refl in
@@ -119,6 +128,7 @@ abbrev pub NoneAgain : List Frame → Type 0
 NoneAgain [] = Unit {0}
 NoneAgain (f ∷ fs) = (f.again ≡ None) × NoneAgain fs
 
+-- doing a command leaves the wait that its frame has to take up
 done_again : (c : Command) (f : Frame) → (done_to c f).again ≡ f.again
 done_again (Raise l) f = refl
 done_again c f = refl
@@ -134,6 +144,7 @@ effect_again due (Delay m a u) y f (inr h) = cc
 effect_again due c Done f h = done_again c f
 effect_again due c y f h = refl
 
+-- a change by name that keeps waits to take up leaves frames without any, if they had none
 named_again : (n : ℕ) (g : Frame → Frame) (fs : List Frame) → ((f : Frame) → (g f).again ≡ f.again) → NoneAgain fs → NoneAgain (at_name n g fs)
 named_again n g [] k h = h
 named_again n g (f ∷ fs) k h = (go (f.name == n), h.1)
@@ -142,6 +153,7 @@ named_again n g (f ∷ fs) k h = (go (f.name == n), h.1)
     go true = k f ∙ h.0
     go false = h.0
 
+-- taking out a frame by name leaves frames without waits to take up, if they had none
 without_again : (n : ℕ) (fs : List Frame) → NoneAgain fs → NoneAgain (without n fs)
 without_again n [] h = h
 without_again n (f ∷ fs) h = go (f.name == n)
@@ -179,6 +191,7 @@ own_again s p x l n due (End f) fs e k h = without_again f fs h
 own_again s p x l n due (Free f c) fs e k h = named_again f freed fs (λ x'. refl) h
 own_again s p x l n due w fs e k h = h
 
+-- in a run no frame on a processor's own part has a wait to take up
 pub none_again : (s : Script) (limit : ℕ) (p : CpuNo) (past : List Event) → IsRun s limit past → NoneAgain (own_frames p past)
 none_again s limit p [] r = tt
 none_again s limit p (e ∷ past) r = go (is_of e p) refl (none_again s limit p past r.1)

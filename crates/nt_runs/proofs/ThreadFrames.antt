@@ -160,6 +160,7 @@ module _ (s : Script) (p : CpuNo) (P : Frame → Type 0) (k : Kept s p P) where
       subst (Each P) (sym moved) (after_each (own_of s p past) (lanes_at s past) (length past) (length past) (due_of e.what (time past)) e.what
       (thread_frames s p t past) (known_there s limit p t e past o b g r) (all_named s p t past) ih)
 
+  -- in a run a property that each event keeps holds of each open frame of a thread
   pub each_frame : (limit : ℕ) (t : ThreadNo) (past : List Event) → IsRun s limit past → Each P (thread_frames s p t past)
   each_frame limit t [] r = tt
   each_frame limit t (e ∷ past) r =
@@ -182,9 +183,11 @@ GaveUp f = f.leaving ≡ true → (f.crit ≡ 0) × (f.guard ≡ 0)
 abbrev pub Sound : Frame → Type 0
 Sound f = Special f × GaveUp f × (is_own_body f.body ≡ false)
 
+-- false isn't true, so anything follows (for threads' frames)
 no_bool : {A : Type 0} → false ≡ true → A
 no_bool h = cc
 
+-- a new frame of a special kernel APC stands at APC_LEVEL in its kernel routine
 new_special : (n : ℕ) (b : Body) → Special (new_frame n b)
 new_special n (OnApc a SpecialApc) h = (omega arith, refl, (omega arith, tt))
 new_special n (OnApc a NormalApc) h = no_bool h
@@ -195,6 +198,7 @@ new_special n (OnThreaded d) h = no_bool h
 new_special n (OnBase t) h = no_bool h
 new_special n (OnRundown a) h = no_bool h
 
+-- a special kernel APC has no normal routine
 not_normal : (b : Body) → has_normal b ≡ true → is_special b ≡ true → ⊥
 not_normal (OnApc a SpecialApc) h k = cc
 not_normal (OnApc a NormalApc) h k = cc
@@ -205,6 +209,7 @@ not_normal (OnThreaded d) h k = cc
 not_normal (OnBase t) h k = cc
 not_normal (OnRundown a) h k = cc
 
+-- a base frame is no special kernel APC
 not_base : (b : Body) → is_base_body b ≡ true → is_special b ≡ true → ⊥
 not_base (OnBase t) h k = cc
 not_base (OnApc a kind) h k = cc
@@ -213,16 +218,19 @@ not_base (OnDpc d) h k = cc
 not_base (OnThreaded d) h k = cc
 not_base (OnRundown a) h k = cc
 
+-- doing a command keeps whether its frame is in its kernel routine
 done_phase : (c : Command) (f : Frame) → (done_to c f).kernel_phase ≡ f.kernel_phase
 done_phase (Raise l) f = refl
 done_phase c f = refl
 
+-- a call leaves the kernel phase of its frame as it was
 pub called_phase : (due : Option ℕ) (c : Command) (y : Reply) (f : Frame) → (called due c y f).kernel_phase ≡ f.kernel_phase
 called_phase due (StartWait m a) y f = refl
 called_phase due (Delay m a u) y f = refl
 called_phase due c Done f = done_phase c f
 called_phase due c y f = refl
 
+-- a special kernel APC in its kernel routine has APC_LEVEL as base level
 special_base : (f : Frame) → is_special f.body ≡ true → f.kernel_phase ≡ true → base_of f ≡ 1
 special_base f h k = go f.body f.kernel_phase h k
   where
@@ -255,6 +263,7 @@ called_level s p x l n due (Delay m a u) y k h b = h
 called_level s p x l n due c Done k h b = h
 called_level s p x l n due c y k h b = h
 
+-- a known call keeps a special kernel APC at APC_LEVEL or above, in its kernel routine
 called_special : (s : Script) (p : CpuNo) (x : Own) (l : Lanes) (n : ℕ) (due : Option ℕ) (c : Command) (y : Reply) (k : KnownCall s p x l n c y) →
     Special k.frame → Special (called due c y k.frame)
 called_special s p x l n due c y k h q =
@@ -264,6 +273,7 @@ called_special s p x l n due c y k h q =
     let m = moved_floor 1 (call_move c y) k.frame (effect due c y k.frame).level (omega arith) low z.0 z.2 in
     (m.0, called_phase due c y k.frame ∙ z.1, (m.1, m.2))
 
+-- a frame that comes back from a wait keeps the rules of special APCs and of leaving
 resumed_special : (st : Option ℕ) (f : Frame) → Sound f → Sound (resumed st f)
 resumed_special None f h = h
 resumed_special (Some x) f h = h
@@ -290,5 +300,6 @@ sound_kept s p = record {
   );
 }
 
+-- in a run a thread's special APC stays at APC_LEVEL or above, and its leaving base frame is in no region
 pub sound_frames : (s : Script) (limit : ℕ) (p : CpuNo) (t : ThreadNo) (past : List Event) → IsRun s limit past → Each Sound (thread_frames s p t past)
 sound_frames s limit p t past r = each_frame s p Sound (sound_kept s p) limit t past r

@@ -69,6 +69,7 @@ abbrev pub NextTask : Task → Type 0
 NextTask (Alone w) = IsNext w
 NextTask (Shared j) = is_chosen j ≡ false
 
+-- the begin of the first DPC of a part is one of the events that a turn Next gives
 first_next : (part : Part) (q : QueueState) → Holds IsNext (begin_first part q)
 first_next part q = holds_map IsNext (begin_dpc part) (first_dpc part q.pending) (λ i e. begins part i)
   where
@@ -76,11 +77,13 @@ first_next part q = holds_map IsNext (begin_dpc part) (first_dpc part q.pending)
     begins OrdinaryPart i = refl
     begins ThreadedPart i = refl
 
+-- the idle event is one of those that a turn Next gives
 pub idle_next : (s : Script) (st : Stand) (l : Lanes) → Holds IsNext (idle_event s st l)
 idle_next s st l =
     holds_or IsNext (begin_first OrdinaryPart (queue_at l st.cpu)) _ (first_next OrdinaryPart (queue_at l st.cpu))
     (λ e. holds_when IsNext (is_null (ready s st.cpu l)) (Some Rest) (λ h. refl))
 
+-- the event of a job that chooses no thread is one that a turn Next gives
 job_next : (s : Script) (st : Stand) (l : Lanes) (j : Job) → is_chosen j ≡ false → Holds IsNext (job_event s st l j)
 job_next s st l (CallJob c) h = refl
 job_next s st l (FireJob d) h = refl
@@ -108,6 +111,7 @@ job_next s st l RundownJob h =
     holds_map IsNext (rundown_event l) st.thread (λ t e. holds_else IsNext (option_map (λ x. Flush x.apc x.number) (first_user (facts_at l t).apcs)) (Gone t)
     (holds_map IsNext (λ x. Flush x.apc x.number) (first_user (facts_at l t).apcs) (λ x k. refl)) (λ k. refl))
 
+-- a task that must be done first chooses no thread
 must_next : (x : Own) → Holds NextTask (must_task x)
 must_next x =
     holds_or NextTask (fire_task x) _ (holds_map NextTask (λ d. Shared (FireJob d)) x.fire (λ d e. refl))
@@ -117,6 +121,7 @@ must_next x =
     (λ k2. holds_or NextTask (when (may_apcs x) (Some (Shared ApcsJob))) _ (holds_when NextTask (may_apcs x) (Some (Shared ApcsJob)) (λ h. refl))
     (λ k3. holds_when NextTask (may_threaded x) (Some (Shared ThreadedJob)) (λ h. refl)))))
 
+-- the task of a command chooses no thread
 call_next : (f : Frame) (c : Command) (r : Option Refusal) → NextTask (call_task f c r)
 call_next f c (Some r) = refl
 call_next f ToUser None = refl
@@ -126,15 +131,18 @@ call_next f c None = lane (needs_lane c)
     lane true = refl
     lane false = refl
 
+-- the task that ends a frame chooses no thread
 end_next : (n : ℕ) (b : Body) → NextTask (end_task n b)
 end_next n (OnBase t) = refl
 end_next n (OnApc a UserApc) = refl
 end_next n b = refl
 
+-- the task of the next command, if there is one, chooses no thread
 command_next : (x : Own) (f : Frame) (o : Option Command) → Holds NextTask (command_task x f o)
 command_next x f None = tt
 command_next x f (Some c) = call_next f c _
 
+-- no task of a frame chooses a thread
 frame_next : (s : Script) (p : CpuNo) (x : Own) (f : Frame) → Holds NextTask (frame_task s p x f)
 frame_next s p x f =
     holds_or NextTask (rewait_task f) _ (holds_when NextTask (is_some f.again) (Some (Shared RewaitJob)) (λ h. refl))
@@ -144,6 +152,7 @@ frame_next s p x f =
     (λ k4. holds_or NextTask (normal_task f) _ (holds_when NextTask (f.kernel_phase && has_normal f.body) (Some (Alone (Normal f.name))) (λ h. refl))
     (λ k3. end_next f.name f.body)))))
 
+-- a processor's task is one that makes no choice of thread
 pub task_next : (s : Script) (p : CpuNo) (x : Own) → Holds NextTask (task s p x)
 task_next s p x =
     holds_or NextTask (must_task x) _ (must_next x) (λ e. holds_when NextTask (not (waits_for_lock x)) (go_on_task s p x)
@@ -151,6 +160,7 @@ task_next s p x =
     (holds_then NextTask (frame_task s p x) (innermost x.frames) (λ f k. frame_next s p x f))
     (λ k. holds_when NextTask (not (x.rested && is_none x.frames.running)) (Some (Shared IdleJob)) (λ h. refl))))
 
+-- what a processor does next is one of those that a turn Next gives
 pub next_is_next : (s : Script) (p : CpuNo) (x : Own) (l : Lanes) → Holds (λ w. is_next w ≡ true) (next_what s p x l)
 next_is_next s p x l =
     holds_then IsNext (task_event s (stand_in p x) l) (task s p x) (λ t e. events t (holds_at NextTask (task s p x) t (task_next s p x) e))
@@ -161,6 +171,7 @@ next_is_next s p x l =
 
 -- ---- turns
 
+-- the turn of an event that is no Look and no Switch is Next of its processor
 turn_next : (p : CpuNo) (w : What) → IsNext w → turn_at p w ≡ Next p
 turn_next p (Look r) h = cc
 turn_next p (Switch t st) h = cc
@@ -183,9 +194,11 @@ run_grows s limit t past e r h =
 
 -- ---- turns decide the run
 
+-- two events that are equal as accepted answers are equal
 same_event : (e f : Event) → ◌≡◌ {A = Result Event ScheduleKind} (Ok e) (Ok f) → e ≡ f
 same_event e f h = cc
 
+-- two runs of the same turns, the newest first, are the same run
 newest_decide : (s : Script) (limit : ℕ) (h k : List Event) → IsRun s limit h → IsRun s limit k → map turn_of h ≡ map turn_of k → h ≡ k
 newest_decide s limit [] [] r q t = refl
 newest_decide s limit [] (f ∷ k) r q t = cc
@@ -202,6 +215,7 @@ newest_decide s limit (e ∷ h) (f ∷ k) r q t =
     tails : (a b : Turn) (x y : List Turn) → a ∷ x ≡ b ∷ y → x ≡ y
     tails a b x y e = cc
 
+-- mapping a reversed list is reversing the mapped list
 map-reverse : {A B : Type 0} (f : A → B) (xs : List A) → map f (reverse xs) ≡ reverse (map f xs)
 map-reverse f [] = refl
 map-reverse f (x ∷ xs) =
@@ -212,6 +226,7 @@ map-reverse f (x ∷ xs) =
 turns_back : (past : List Event) → map turn_of past ≡ reverse (turns past)
 turns_back past = sym (reverse-reverse (map turn_of past)) ∙ ap reverse (sym (map-reverse turn_of past))
 
+-- two runs of the same turns are equal
 pub turns_decide : (s : Script) (limit : ℕ) (h k : List Event) → IsRun s limit h → IsRun s limit k → turns h ≡ turns k → h ≡ k
 turns_decide s limit h k r q t =
     newest_decide s limit h k r q (turns_back h ∙ (ap reverse t ∙ sym (turns_back k)))

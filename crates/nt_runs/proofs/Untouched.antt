@@ -49,6 +49,7 @@ use Rattle.nt_event.proofs.Tables.{get_or-table, table-same}
 use Rattle.nt_event.specs.Locks.{Frees, Gets, LockMove, LockState, Spins, lock_move, lock_moved, lock_of, start_lock}
 use Rattle.nt_event.specs.declared.numbers.LockNo.{LockNo}
 
+-- a table read at a number after its end gives the default
 pub past_table : {A : Type 0} (k n i : ℕ) (f : ℕ → A) (d : A) → n ≤ i → get_or (table_from k n f) i d ≡ d
 unfolding table_from
 past_table k zero i f d h = refl
@@ -65,20 +66,24 @@ read_same n i f g d h = go (nat_lt i n) refl
     go false e =
         let l : n ≤ i = ltb-false i n e in past_table 0 n i f d l ∙ sym (past_table 0 n i g d l)
 
+-- where neither of two lanes is touched, the first isn't
 first_false : (a b : Bool) → (a || b) ≡ false → a ≡ false
 first_false false b h = refl
 first_false true b h = cc
 
+-- where neither of two lanes is touched, the second isn't
 second_false : (a b : Bool) → (a || b) ≡ false → b ≡ false
 second_false false b h = h
 second_false true b h = cc
 
+-- a choice between two equal values is that value
 cond_same : {A : Type 0} (b : Bool) (x : A) → (if b then x else x) ≡ x
 cond_same true x = refl
 cond_same false x = refl
 
 -- ---- objects
 
+-- an event that doesn't touch a DPC object's lane leaves the object
 object_untouched : (s : Script) (st : Stand) (w : What) (l : Lanes) (d : DpcNo) (n : ℕ) (o : ObjectState) →
     list_any (same_lane (ObjectLane d)) (what_lanes s st w l) ≡ false → object_after d n st.cpu w o ≡ o
 object_untouched s st (Call f (SetImportance x i) Done) l d n o h = rw (first_false (x.0 == d.0) _ h)
@@ -92,11 +97,13 @@ object_untouched s st w l d n o h = refl
 
 -- ---- queues
 
+-- where the queue in which an object stands isn't touched, the object stands in another queue or none
 left_false : (o : Option Standing) (q : CpuNo) → list_any (same_lane (QueueLane q)) (standing_lanes o) ≡ false → is_queue (option_map (λ x. x.queue) o) q
     ≡ false
 left_false None q h = refl
 left_false (Some x) q h = first_false (x.queue.0 == q.0) _ h
 
+-- an event that doesn't touch a queue's lane leaves the queue
 queue_untouched : (s : Script) (st : Stand) (w : What) (l : Lanes) (q : CpuNo) (n : ℕ) (x : QueueState) →
     list_any (same_lane (QueueLane q)) (what_lanes s st w l) ≡ false → queue_after s q n st.cpu w l.objects x ≡ x
 queue_untouched s st (Call f (Queue d) Yes) l q n x h =
@@ -151,14 +158,17 @@ named_clash s q u t c e h = go (u.0 == t.0) refl
         let same : (cpu_of s u).0 ≡ (cpu_of s t).0 = ap (λ (n : ℕ). (cpu_of s (record { 0 = n })).0) (eqb-true u.0 t.0 k) in
         lane_clash ((cpu_of s u).0 == q.0) c h (eq-eqb (cpu_of s u).0 q.0 (same ∙ e))
 
+-- a choice whose condition fails is the second value
 no_answer : (b : Bool) → b ≡ false → {A : Type 0} (x y : A) → (if b then x else y) ≡ y
 no_answer true h x y = cc
 no_answer false h x y = refl
 
+-- a conjunction whose second part fails is false
 and_false : (a b : Bool) → b ≡ false → (a && b) ≡ false
 and_false true b h = h
 and_false false b h = refl
 
+-- an event that doesn't touch the threads of a processor names none of them in a way that changes its facts
 named_untouched : (s : Script) (st : Stand) (w : What) (l : Lanes) (q : CpuNo) (t : ThreadNo) (n : ℕ) (x : ThreadFacts) → (cpu_of s t).0 ≡ q.0 →
     list_any (same_lane (ThreadsLane q)) (what_lanes s st w l) ≡ false → named_facts s t n w x ≡ x
 named_untouched s st (Call f (Release u) (Refused r)) l q t n x e h = refl
@@ -175,6 +185,7 @@ named_untouched s st (Expire (OfDelay u) from) l q t n x e h =
     no_answer (u.0 == t.0) (named_clash s q u t _ e h) (expiry_facts from x) x
 named_untouched s st w l q t n x e h = refl
 
+-- an event that doesn't touch the threads of a processor leaves the facts of each of them
 facts_untouched : (s : Script) (q : CpuNo) (t : ThreadNo) (e : Event) (past : List Event) → (cpu_of s t).0 ≡ q.0 → touches s (ThreadsLane q) e past ≡ false →
     facts s t (e ∷ past) ≡ facts s t past
 facts_untouched s q t e past own h =
@@ -212,14 +223,17 @@ threads_same s p n (x ∷ xs) l m h k =
 
 -- ---- timers
 
+-- an event that doesn't touch the timers' lane leaves the time
 time_untouched : (s : Script) (st : Stand) (w : What) (l : Lanes) (now : ℕ) → list_any (same_lane TimersLane) (what_lanes s st w l) ≡ false → time_after w now
     ≡ now
 time_untouched s st (Call f (Clock u) Done) l now h = cc
 time_untouched s st w l now h = refl
 
+-- a refusal answers nothing
 answer_refused : (r : Refusal) → is_answer (Refused r) ≡ false
 answer_refused r = refl
 
+-- an event that doesn't touch the timers' lane leaves the setting of each timer
 timer_untouched : (s : Script) (st : Stand) (w : What) (l : Lanes) (t : TimerNo) (n now : ℕ) (old : Option Setting) →
     list_any (same_lane TimersLane) (what_lanes s st w l) ≡ false → timer_after t n now w old ≡ old
 timer_untouched s st (Call f (SetTimer x due period) (Refused r)) l t n now old h = refl
@@ -233,11 +247,13 @@ set_untouched : (o : Option ℕ) (n : ℕ) (old : Option Setting) → is_some o 
 set_untouched None n old h = refl
 set_untouched (Some d) n old h = cc
 
+-- where a lane touched only under a condition isn't touched, the condition fails
 lane_if_false : (b : Bool) (more : Bool) → (more || list_any (same_lane TimersLane) (lane_if b TimersLane)) ≡ false → b ≡ false
 lane_if_false true true h = cc
 lane_if_false true false h = cc
 lane_if_false false more h = refl
 
+-- an event that doesn't touch the timers' lane sets no delay of the thread that makes it
 blocked_untouched : (s : Script) (st : Stand) (w : What) (l : Lanes) (n now : ℕ) (old : Option Setting) → list_any (same_lane TimersLane) (what_lanes s st w l)
     ≡ false → blocked_after n now st.again w old ≡ old
 blocked_untouched s st (Call f (Delay m a u) Blocked) l n now old h = cc
@@ -245,11 +261,13 @@ blocked_untouched s st (Rewait f Blocked) l n now old h =
     set_untouched (option_and_then (λ w. w.due) st.again) n old (lane_if_false (is_some (option_and_then (λ w. w.due) st.again)) false h)
 blocked_untouched s st w l n now old h = refl
 
+-- an event that doesn't touch the timers' lane ends no thread's delay by expiry
 expired_untouched : (s : Script) (st : Stand) (w : What) (l : Lanes) (t : ThreadNo) (old : Option Setting) →
     list_any (same_lane TimersLane) (what_lanes s st w l) ≡ false → expired_delay t w old ≡ old
 expired_untouched s st (Expire (OfDelay u) from) l t old h = cc
 expired_untouched s st w l t old h = refl
 
+-- an event that doesn't touch the timers' lane leaves the delay of each thread
 delay_untouched : (s : Script) (t : ThreadNo) (e : Event) (past : List Event) → touches s TimersLane e past ≡ false → delay_setting s t (e ∷ past)
     ≡ delay_setting s t past
 delay_untouched s t e past h =
@@ -261,6 +279,7 @@ delay_untouched s t e past h =
         blocked_untouched s (stand_at s e.cpu past) e.what (lanes_at s past) (length past) (time past) (delay_setting s t past) h
     go false = refl
 
+-- an event that doesn't touch the timers' lane leaves the time, the timers and the delays
 timers_untouched : (s : Script) (e : Event) (past : List Event) → touches s TimersLane e past ≡ false → timers_at s (e ∷ past) ≡ timers_at s past
 timers_untouched s e past h = λ i. record { now = n i; timers = t i; delays = d i }
   where
@@ -276,12 +295,14 @@ timers_untouched s e past h = λ i. record { now = n i; timers = t i; delays = d
 
 -- ---- spin locks
 
+-- a move of another lock leaves the lock
 lock_other : (s : Script) (k : LockNo) (p : CpuNo) (m : LockMove) (x : LockNo) (old : LockState) → ((x.0 == k.0) || false) ≡ false →
     (m ≡ Gets x) ⊎ ((m ≡ Spins x) ⊎ (m ≡ Frees x)) → lock_moved s k p m old ≡ old
 lock_other s k p m x old h (inl e) = let n : (x.0 == k.0) ≡ false = first_false _ false h in rw (e, n) refl
 lock_other s k p m x old h (inr (inl e)) = let n : (x.0 == k.0) ≡ false = first_false _ false h in rw (e, n) refl
 lock_other s k p m x old h (inr (inr e)) = let n : (x.0 == k.0) ≡ false = first_false _ false h in rw (e, n) refl
 
+-- an event that doesn't touch a lock's lane leaves the lock
 lock_untouched : (s : Script) (st : Stand) (w : What) (l : Lanes) (k : LockNo) (p : CpuNo) (old : LockState) →
     list_any (same_lane (LockLane k)) (what_lanes s st w l) ≡ false → lock_moved s k p (lock_move w) old ≡ old
 lock_untouched s st (Call f (Acquire x) Done) l k p old h = lock_other s k p (Gets x) x old h (inl refl)
@@ -292,6 +313,7 @@ lock_untouched s st w l k p old h = refl
 
 -- ---- a lane's state
 
+-- an event that doesn't touch a lane leaves its content
 content_untouched : (s : Script) (x : Lane) (e : Event) (past : List Event) → touches s x e past ≡ false → content s (lanes_at s (e ∷ past)) x
     ≡ content s (lanes_at s past) x
 content_untouched s (ObjectLane d) e past h =
@@ -310,11 +332,13 @@ content_untouched s (LockLane k) e past h =
     ap (λ (x : LockState). OfLock x) (read_same s.locks k.0 (λ k. lock_of s (lock k) (e ∷ past)) (λ k. lock_of s (lock k) past) start_lock
     (λ l. lock_untouched s (stand_at s e.cpu past) e.what (lanes_at s past) k e.cpu (lock_of s k past) h))
 
+-- an event that doesn't touch a lane leaves what the lane tells of requests
 told_untouched : (s : Script) (x : Lane) (e : Event) (past : List Event) (p : CpuNo) (c : ℕ) → touches s x e past ≡ false → told_by s x p c (e ∷ past)
     ≡ told_by s x p c past
 told_untouched s x e past p c h =
     ap (λ (b : Bool). raised (b && asks s p c e past) (length past) (told_by s x p c past)) h
 
+-- an event that doesn't touch a lane leaves its state as it was
 pub untouched : (s : Script) (x : Lane) (e : Event) (past : List Event) → touches s x e past ≡ false → lane_state s x (e ∷ past) ≡ lane_state s x past
 untouched s x e past h =
     λ i. record { content = content_untouched s x e past h i; told = t i }

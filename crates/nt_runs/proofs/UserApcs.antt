@@ -47,6 +47,7 @@ head_user : (g : Frame → Frame) (f : Frame) (fs : List Frame) → (g f).body �
 head_user g f [] e h = tt
 head_user g f (x ∷ fs) e h = (λ u. h.0 (ap is_user_apc_body (sym e) ∙ u), h.1)
 
+-- a change by name that keeps what runs in frames keeps user APCs on frames at PASSIVE_LEVEL
 named_user : (n : ℕ) (g : Frame → Frame) (fs : List Frame) → Keeps g → UserBelow fs → UserBelow (at_name n g fs)
 named_user n g [] k h = h
 named_user n g (f ∷ fs) k h = go (f.name == n)
@@ -60,10 +61,12 @@ begun_user : (f : Frame) (fs : List Frame) → (is_user_apc_body f.body ≡ true
 begun_user f [] l h = tt
 begun_user f (g ∷ fs) l h = (l, h)
 
+-- without the innermost frame, user APCs still stand on frames at PASSIVE_LEVEL
 tail_user : (f : Frame) (fs : List Frame) → UserBelow (f ∷ fs) → UserBelow fs
 tail_user f [] h = tt
 tail_user f (g ∷ fs) h = h.1
 
+-- the end of a thread's innermost frame leaves user APCs on frames at PASSIVE_LEVEL
 end_user : (n : ℕ) (fs : List Frame) → UserBelow fs → UserBelow (end_on_thread n fs)
 end_user n [] h = h
 end_user n (f ∷ fs) h = go (f.name == n) (is_base_body f.body) refl
@@ -84,6 +87,7 @@ end_user n (f ∷ fs) h = go (f.name == n) (is_base_body f.body) refl
     go true false e = tail_user f fs h
     go false c e = h
 
+-- a flushed APC leaves user APCs on frames at PASSIVE_LEVEL
 flushed_user : (n : ℕ) (a : ApcNo) (r : Option RoutineNo) (fs : List Frame) → UserBelow fs → UserBelow (flushed n a r fs)
 flushed_user n a None fs h = h
 flushed_user n a (Some r) fs h = begun_user (new_frame n (OnRundown a)) fs (λ u. no u) h
@@ -91,10 +95,12 @@ flushed_user n a (Some r) fs h = begun_user (new_frame n (OnRundown a)) fs (λ u
     no : {A : Type 0} → false ≡ true → A
     no u = cc
 
+-- a switch to a thread leaves its user APCs on frames at PASSIVE_LEVEL
 switched_user : (n : ℕ) (t : ThreadNo) (st : Option ℕ) (fs : List Frame) → UserBelow fs → UserBelow (switched_to n t st fs)
 switched_user n t st [] h = tt
 switched_user n t st (f ∷ fs) h = head_user (resumed st) f fs ((resumed_keeps st).body f) h
 
+-- an event leaves user APCs on frames at PASSIVE_LEVEL, if an APC that it begins begins at that level
 after_user : (s : Script) (n : ℕ) (due : Option ℕ) (w : What) (fs : List Frame) → ((a : ApcNo) (from : ℕ) → w ≡ Begin (Apc a) from → level_of fs ≡ 0) →
     UserBelow fs → UserBelow (thread_after s n due w fs)
 after_user s n due (Switch u st) fs l h = switched_user n u st fs h
@@ -110,15 +116,18 @@ after_user s n due w fs l h = h
 
 -- ---- an APC begins at PASSIVE_LEVEL
 
+-- where the innermost frame stands on the running thread's part, the own part is empty
 on_thread_null : (x : Frames) → is_on_thread x ≡ true → is_null x.own ≡ true
 on_thread_null x h = (both (is_null x.own) _ h).0
 
+-- a processor that must deliver APCs before it goes on is at PASSIVE_LEVEL with an empty own part
 pub apcs_low : (x : Own) → may_apcs x ≡ true → (level_at x ≡ 0) × (is_null x.frames.own ≡ true)
 apcs_low x h =
     let a = both (level_at x == 0) _ h in
     let b = both (is_on_thread x.frames) _ a.1 in
     (eqb-true (level_at x) 0 a.0, on_thread_null x.frames b.0)
 
+-- a return to user mode is at PASSIVE_LEVEL with an empty own part
 pub touser_low : (s : Script) (p : CpuNo) (x : Own) → KnownToUser s p x → (level_at x ≡ 0) × (is_null x.frames.own ≡ true)
 touser_low s p x k =
     let own : not (is_null x.frames.own) ≡ false = refuse_none (not (is_null x.frames.own)) NotThread _ k.accepted in
@@ -136,6 +145,7 @@ touser_low s p x k =
     next_test true r o h = cc
     next_test false r o h = h
 
+-- the begin of an APC is at PASSIVE_LEVEL with an empty own part
 pub begin_low : (s : Script) (p : CpuNo) (x : Own) (l : Lanes) (a : ApcNo) (from : ℕ) → KnownBegin s p x l (Apc a) from → (level_at x ≡ 0) ×
     (is_null x.frames.own ≡ true)
 begin_low s p x l a from (inl k) = apcs_low x k.0
@@ -143,6 +153,7 @@ begin_low s p x l a from (inr k) = touser_low s p x k.0
 
 -- ---- in a run
 
+-- a legal event of a run leaves a thread's user APCs on frames at PASSIVE_LEVEL
 user_step : (s : Script) (limit : ℕ) (p : CpuNo) (t : ThreadNo) (e : Event) (past : List Event) (own by : Bool) → is_of e p ≡ own → is_by e t ≡ by →
     IsLegal s limit e past → IsRun s limit past → UserBelow (thread_frames s p t past) → UserBelow (thread_frames s p t (e ∷ past))
 user_step s limit p t e past false by o b g r ih =
@@ -170,6 +181,7 @@ user_step s limit p t e past true true o b g r ih =
         let h = running_here s limit p t past r run in
         sym (level_on_thread (frames_of s p past) (thread_frames s p t past) z.1 (part_of_running s p t past h.0 run)) ∙ z.0
 
+-- in a run a user APC stands on a frame at PASSIVE_LEVEL
 pub user_below : (s : Script) (limit : ℕ) (p : CpuNo) (t : ThreadNo) (past : List Event) → IsRun s limit past → UserBelow (thread_frames s p t past)
 user_below s limit p t [] r = tt
 user_below s limit p t (e ∷ past) r =

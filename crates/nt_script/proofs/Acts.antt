@@ -40,9 +40,11 @@ use Rattle.nt_script.proofs.Steps.{apc_taken, lock_taken, routine_taken, exit_ta
 abbrev pub ok : {A : Type 0} → A → Result A ScriptKind
 ok x = Ok x
 
+-- results without error that are equal have equal values
 pub ok_is : {A : Type 0} (x y : A) → ok x ≡ Ok y → x ≡ y
 ok_is x y e = cc
 
+-- the keyword of an APC object wants one field more than its kind: the name
 pub apc_arity : (k : ApcKind) → arity (keyword.Apc k) ≡ suc (apc_fields k)
 apc_arity Special = refl
 apc_arity Normal = refl
@@ -55,9 +57,11 @@ moved all w wd wd' args args' new' new ew ea en h =
     let row : text_of wd' ∷ args' ≡ text_of wd ∷ args = ap (λ (v : Keyword). text_of v ∷ args') (sym ew) ∙ ap (λ (a : Row). text_of wd ∷ a) (sym ea) in
     ap (so_far all) (sym en) ∙ h ∙ ap (λ (r : Row). so_far all w ++ r ∷ []) row
 
+-- a row of one field that is known is the row of that field
 one_shown : (args : Row) (f : List ℕ) → length args ≡ 1 → first args ≡ f → args ≡ f ∷ []
 one_shown args f len e = one_field args len ∙ ap (λ (g : List ℕ). g ∷ []) e
 
+-- what a keyword does with its fields, if it is taken, adds their row to the rows read so far
 pub act_taken : (all : NameLists) → AreFew all → (w : Walk) (wd : Keyword) (args : Row) (new : Walk) → At w.place wd → since wd ≤ w.version →
     length args ≡ arity wd →
     act all w wd args ≡ Ok new → Good w → so_far all new ≡ so_far all w ++ (text_of wd ∷ args) ∷ []
@@ -145,6 +149,7 @@ act_taken all few w (keyword.Call verb) args new at old len e good =
     moved all w (keyword.Call verb) (command_keyword c) args (command_args all c) (with_command w c) new t.keyword t.spelled o.1
     (command_taken all w c at good)
 
+-- a line that is taken adds its row to the rows read so far
 pub step_taken : (all : NameLists) → AreFew all → (w : Walk) (row : Row) (new : Walk) → step all w row ≡ Ok new → Good w → so_far all new ≡ so_far all w
     ++ row ∷ []
 step_taken all few w row new e good =

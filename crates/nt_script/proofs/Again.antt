@@ -51,6 +51,7 @@ use Rattle.nt_script.proofs.Acts.{apc_arity}
 
 -- ---- one row
 
+-- a row with as many fields as its keyword wants passes the count
 counted_again : (n : ℕ) → counted n n ≡ Ok true
 counted_again n = rw (le-ltb n n (omega arith)) refl
 
@@ -59,9 +60,11 @@ step_again : (all : NameLists) (w : Walk) (wd : Keyword) (args : Row) → At w.p
     step all w (text_of wd ∷ args) ≡ act all w wd args
 step_again all w wd args at old len = rw (keyword_again w.version wd old, at_again w.place wd at, len, counted_again (arity wd)) refl
 
+-- a name that means nothing yet is taken as a new name
 new_again : (names : NameLists) (n : List ℕ) → is_name n ≡ true → meaning n names ≡ None → new_name names n ≡ Ok n
 new_again names n named none = rw (named, none) refl
 
+-- a declaration of a new name with fields that can be read puts the thing that they are read as
 declaration_again : {A : Type 0} (names : NameLists) (read : Row → Result A ScriptKind) (put : List ℕ → A → Result Walk ScriptKind) (n : List ℕ) (args : Row)
     (x : A) → is_name n ≡ true → meaning n names ≡ None → read args ≡ Ok x → declaration names read put (n ∷ args) ≡ put n x
 declaration_again names read put n args x named none e = rw (new_again names n named none, e) refl
@@ -73,6 +76,7 @@ abbrev pub Steps : NameLists → Walk → List Row → Walk → Type 0
 Steps all w [] last = w ≡ last
 Steps all w (row ∷ rows) last = (mid : Walk) × (step all w row ≡ Ok mid) × Steps all mid rows last
 
+-- rows that lead to a state, and rows that lead on from it, lead there as one list
 pub steps_then : (all : NameLists) (w : Walk) (a b : List Row) (mid last : Walk) → Steps all w a mid → Steps all mid b last → Steps all w (a ++ b) last
 steps_then all w [] b mid last s t = subst (λ (m : Walk). Steps all m b last) (sym s) t
 steps_then all w (row ∷ a) b mid last s t = (s.0, s.1, steps_then all s.0 a b mid last s.2 t)
@@ -85,9 +89,11 @@ steps_to all w rows make a a' b b' p p' ea eb ep s =
     let two : Steps all w rows (make a' b' p) = subst (λ b. Steps all w rows (make a' b p)) eb one in
     subst (λ p. Steps all w rows (make a' b' p)) ep two
 
+-- a list with room for one more and the rest has room for the rest after it got the one
 more_room : {A : Type 0} (xs : List A) (x : A) (n most : ℕ) → length xs + suc n ≤ most → length (xs ++ x ∷ []) + n ≤ most
 more_room xs x n most h = omega (arith, h, length-append xs (x ∷ []))
 
+-- a list with room for one more and others is shorter than the limit
 less_room : {A : Type 0} (xs : List A) (n most : ℕ) → length xs + suc n ≤ most → length xs < most
 less_room xs n most h = omega arith
 
@@ -95,12 +101,14 @@ abbrev pub place_after : {A : Type 0} → List A → Place → Place → Place
 place_after [] p q = p
 place_after (x ∷ xs) p q = q
 
+-- a place that is left only for itself stays the same
 stays : {A : Type 0} (xs : List A) (p : Place) → place_after xs p p ≡ p
 stays [] p = refl
 stays (x ∷ xs) p = refl
 
 -- ---- a part of things with names, read from what was read of it before
 
+-- if each single row of a part can be read, the whole part is read, row after row
 pub part_run : {A : Type 0} (all : NameLists) (row : List ℕ → A → Row) (make : List (List ℕ) → List A → Place → Walk) (here : Place) (last : ℕ)
     (before : List (List ℕ)) (Fits : A → Type 0) (most : ℕ)
     → ((ns : List (List ℕ)) (xs : List A) (p : Place) (n : List ℕ) (x : A) → Between 2 last p → is_name n ≡ true → place n (before ++ ns) ≡ None → Fits x →
@@ -129,12 +137,14 @@ part_run all row make here last before Fits most one can (n ∷ ns) (x ∷ xs) n
 abbrev pub after_isrs : Walk → List Isr → Place → Walk
 after_isrs w xs p = record w { script = record (w.script) { isrs = xs }; place = p }
 
+-- the line of an interrupt routine for a pair of processor and level that is free is read as that routine
 isr_step : (all : NameLists) (w : Walk) (x : Isr) → AreRead all → HasWords all w.version → Between 2 5 w.place → w.script.cpus ≤ 64 →
     IsrFits all w.script.cpus x →
     is_none (isr_routine w.script.isrs x.cpu x.level) ≡ true → step all w (isr_row all x) ≡ Ok (with_isr w x)
 isr_step all w x are has at le fit new = step_again all w keyword.Isr (isr_args all x) at has.from refl
     ∙ rw (isr_again all w.script.cpus are le x fit, new) refl
 
+-- the rows of interrupt routines for different pairs of processor and level are read as these routines
 pub isrs_run : (all : NameLists) → AreRead all → (w : Walk) → HasWords all w.version → w.script.cpus ≤ 64 → (xs xs' : List Isr) (p : Place) → Between 2 5 p →
     AllByRecursion (IsrFits all w.script.cpus) xs → isrs_differ (xs' ++ xs) ≡ true →
     Steps all (after_isrs w xs' p) (map (isr_row all) xs) (after_isrs w (xs' ++ xs) (place_after xs p InIsrs))
@@ -153,6 +163,7 @@ isrs_run all are w has le (x ∷ xs) xs' p at fit apart =
 abbrev pub after_dpcs : Walk → List (List ℕ) → List DpcDecl → Place → Walk
 after_dpcs w ns xs p = record w { script = record (w.script) { dpcs = xs }; names = record (w.names) { dpcs = ns }; place = p }
 
+-- the line of a DPC with a new name is read as the DPC, if fewer than 256 were read
 dpc_step : (all : NameLists) (w : Walk) (n : List ℕ) (x : DpcDecl) → AreRead all → HasWords all w.version → Between 2 6 w.place → is_name n ≡ true →
     meaning n w.names ≡ None →
     (DpcFits all) x → length w.script.dpcs < 256 → step all w (dpc_row all n x) ≡ Ok (with_dpc w n x)
@@ -162,6 +173,7 @@ dpc_step all w n x are has at named none fit room =
     ∙ declaration_again w.names (dpc_of all x.threaded) put n (dpc_args all x) x named none (dpc_again all are x fit)
     ∙ rw (lt-ltb (length w.script.dpcs) 256 room) refl
 
+-- the rows of up to 256 DPC objects with new names are read as these objects
 pub dpcs_run : (all : NameLists) → AreRead all → (w : Walk) → HasWords all w.version → w.names.timers ≡ [] → w.names.threads ≡ [] → w.names.apcs ≡ [] →
     w.names.locks ≡ [] → w.names.routines ≡ [] →
     (ns : List (List ℕ)) (xs : List DpcDecl) (ns' : List (List ℕ)) (xs' : List DpcDecl) (p : Place) → Between 2 6 p → length ns ≡ length xs →
@@ -177,6 +189,7 @@ dpcs_run all are w has nt nh na nk nr =
 abbrev pub after_timers : Walk → List (List ℕ) → List TimerDecl → Place → Walk
 after_timers w ns xs p = record w { script = record (w.script) { timers = xs }; names = record (w.names) { timers = ns }; place = p }
 
+-- the line of a timer with a new name is read as the timer, if fewer than 64 were read
 timer_step : (all : NameLists) (w : Walk) (n : List ℕ) (x : TimerDecl) → AreRead all → HasWords all w.version → Between 2 7 w.place → is_name n ≡ true →
     meaning n w.names ≡ None →
     (TimerFits all) x → length w.script.timers < 64 → step all w (timer_row all n x) ≡ Ok (with_timer w n x)
@@ -186,6 +199,7 @@ timer_step all w n x are has at named none fit room =
     ∙ declaration_again w.names (timer_of all) put n (timer_args all x) x named none (timer_again all are x fit)
     ∙ rw (lt-ltb (length w.script.timers) 64 room) refl
 
+-- the rows of up to 64 timers with new names are read as these timers
 pub timers_run : (all : NameLists) → AreRead all → (w : Walk) → HasWords all w.version → w.names.threads ≡ [] → w.names.apcs ≡ [] → w.names.locks ≡ [] →
     w.names.routines ≡ [] →
     (ns : List (List ℕ)) (xs : List TimerDecl) (ns' : List (List ℕ)) (xs' : List TimerDecl) (p : Place) → Between 2 7 p → length ns ≡ length xs →
@@ -202,6 +216,7 @@ timers_run all are w has nh na nk nr =
 abbrev pub after_threads : Walk → List (List ℕ) → List ThreadDecl → Place → Walk
 after_threads w ns xs p = record w { script = record (w.script) { threads = xs }; names = record (w.names) { threads = ns }; place = p }
 
+-- the line of a thread with a new name is read as the thread, if fewer than 64 were read
 thread_step : (all : NameLists) (w : Walk) (n : List ℕ) (x : ThreadDecl) → AreRead all → HasWords all w.version → Between 2 8 w.place → w.script.cpus ≤ 64 →
     is_name n ≡ true →
     meaning n w.names ≡ None → (ThreadFits all w.script.cpus) x → length w.script.threads < 64 → step all w (thread_row all n x) ≡ Ok (with_thread w n x)
@@ -212,6 +227,7 @@ thread_step all w n x are has at le named none fit room =
     ∙ declaration_again w.names (thread_of all w.script.cpus) put n (thread_args all x) x named none (thread_again all w.script.cpus are le x fit)
     ∙ rw (lt-ltb (length w.script.threads) 64 room) refl
 
+-- the rows of up to 64 threads with new names are read as these threads
 pub threads_run : (all : NameLists) → AreRead all → (w : Walk) → HasWords all w.version → w.script.cpus ≤ 64 → w.names.apcs ≡ [] → w.names.locks ≡ [] →
     w.names.routines ≡ [] →
     (ns : List (List ℕ)) (xs : List ThreadDecl) (ns' : List (List ℕ)) (xs' : List ThreadDecl) (p : Place) → Between 2 8 p → length ns ≡ length xs →
@@ -229,6 +245,7 @@ threads_run all are w has le na nk nr =
 abbrev pub after_apcs : Walk → List (List ℕ) → List ApcDecl → Place → Walk
 after_apcs w ns xs p = record w { script = record (w.script) { apcs = xs }; names = record (w.names) { apcs = ns }; place = p }
 
+-- the line of an APC with a new name is read as the APC, if fewer than 256 were read
 apc_step : (all : NameLists) (w : Walk) (n : List ℕ) (x : ApcDecl) → AreRead all → HasWords all w.version → Between 2 9 w.place → is_name n ≡ true →
     meaning n w.names ≡ None →
     (ApcFits all) x → length w.script.apcs < 256 → step all w (apc_row all n x) ≡ Ok (with_apc w n x)
@@ -238,6 +255,7 @@ apc_step all w n x are has at named none fit room =
     ∙ declaration_again w.names (apc_of all x.kind) put n (apc_args all x) x named none (apc_again all are x fit)
     ∙ rw (lt-ltb (length w.script.apcs) 256 room) refl
 
+-- the rows of up to 256 APC objects with new names are read as these objects
 pub apcs_run : (all : NameLists) → AreRead all → (w : Walk) → HasWords all w.version → w.names.locks ≡ [] → w.names.routines ≡ [] →
     (ns : List (List ℕ)) (xs : List ApcDecl) (ns' : List (List ℕ)) (xs' : List ApcDecl) (p : Place) → Between 2 9 p → length ns ≡ length xs →
     AreNew (((w.names.dpcs ++ w.names.timers) ++ w.names.threads) ++ ns') ns → AllByRecursion (ApcFits all) xs → length xs' + length xs ≤ 256
@@ -262,6 +280,7 @@ with_count w ns k = record w { script = record (w.script) { locks = k }; names =
 abbrev read_as : Walk → Result Walk ScriptKind
 read_as w = Ok w
 
+-- the line of a lock with a new name is read as one more lock, if fewer than 64 were read
 lock_step : (all : NameLists) (w : Walk) (ns : List (List ℕ)) (p : Place) (n : List ℕ) → 2 ≤ w.version → Between 2 10 p → is_name n ≡ true →
     meaning n (record (w.names) { locks = ns }) ≡ None → length ns < 64 → step all (after_locks w ns p) (lock_row n)
     ≡ Ok (after_locks w (ns ++ n ∷ []) InLocks)
@@ -271,6 +290,7 @@ lock_step all w ns p n two at named none room =
     ∙ rw (new_again (record (w.names) { locks = ns }) n named none, lt-ltb (length ns) 64 room) refl in
     one ∙ ap (λ (k : ℕ). read_as (with_count w (ns ++ n ∷ []) k)) (sym (length-append ns (n ∷ [])))
 
+-- the rows of up to 64 locks with new names are read as these locks, from version 2 on
 pub locks_run : (all : NameLists) (w : Walk) → w.names.routines ≡ [] → (ns ns' : List (List ℕ)) (p : Place) → (1 ≤ length ns → 2 ≤ w.version) →
     Between 2 10 p → AreNew ((((w.names.dpcs ++ w.names.timers) ++ w.names.threads) ++ w.names.apcs) ++ ns') ns → length ns' + length ns ≤ 64
     → Steps all (after_locks w ns' p) (map lock_row ns) (after_locks w (ns' ++ ns) (place_after ns p InLocks))
@@ -297,6 +317,7 @@ locks_run all w nr (n ∷ ns) ns' p two at new room =
 abbrev after_commands : Walk → List Command → ℕ → Place → Walk
 after_commands w cs n p = record w { body = cs; commands = n; place = p }
 
+-- the line of a command in a routine is read as that command, if fewer than 8192 were read
 command_step : (all : NameLists) (w : Walk) (c : Command) → AreRead all → HasWords all w.version → w.place ≡ InRoutine → w.script.cpus ≤ 64 →
     CommandFits all w.script.cpus c →
     w.commands < 8192 → step all w (command_row all c) ≡ Ok (with_command w c)
@@ -305,6 +326,7 @@ command_step all w c are has inside few fit room =
     step_again all w (command_keyword c) (command_args all c) at (command_since all w.script.cpus w.version has c fit) (args_count all c)
     ∙ rw (command_again all w.script.cpus are few c fit, lt-ltb w.commands 8192 room) refl
 
+-- the lines of several commands in a routine are read as these commands, one after the other
 commands_run : (all : NameLists) → AreRead all → (cs : List Command) (w : Walk) → HasWords all w.version → w.place ≡ InRoutine → w.script.cpus ≤ 64 →
     AllByRecursion (CommandFits all w.script.cpus) cs → w.commands + length cs ≤ 8192
     → Steps all w (map (command_row all) cs) (after_commands w (w.body ++ cs) (w.commands + length cs) w.place)
@@ -337,12 +359,14 @@ with_routines s rs = record s { routines = rs }
 abbrev pub with_names : NameLists → List (List ℕ) → NameLists
 with_names names ns = record names { routines = ns }
 
+-- the first line of a routine with a new name opens it, if fewer than 256 were read
 begin_step : (all : NameLists) (w : Walk) (n : List ℕ) → 1 ≤ w.version → Between 2 11 w.place → is_name n ≡ true → meaning n w.names ≡ None →
     length w.script.routines < 256 →
     step all w (text_of keyword.Routine ∷ n ∷ []) ≡ Ok (with_routine w n)
 begin_step all w n old at named none room = step_again all w keyword.Routine (n ∷ []) at old refl
     ∙ rw (new_again w.names n named none, lt-ltb (length w.script.routines) 256 room) refl
 
+-- the exit line closes the routine that is being read
 exit_step : (all : NameLists) (w : Walk) → 1 ≤ w.version → w.place ≡ InRoutine → step all w exit_row ≡ Ok (with_exit w)
 exit_step all w old inside = let at : At w.place keyword.Exit = rw inside (omega arith, omega arith) in step_again all w keyword.Exit [] at old refl
 
@@ -350,6 +374,7 @@ exit_step all w old inside = let at : At w.place keyword.Exit = rw inside (omega
 abbrev routine_read : Walk → List ℕ → List Command → Walk
 routine_read w n cs = with_exit (after_commands (with_routine w n) ([] ++ cs) (w.commands + length cs) InRoutine)
 
+-- the lines of a routine from its first to its exit are read as the routine
 routine_run : (all : NameLists) → AreRead all → (w : Walk) (n : List ℕ) (cs : List Command) → HasWords all w.version → Between 2 11 w.place →
     is_name n ≡ true → meaning n w.names
     ≡ None → length w.script.routines < 256 → w.body ≡ [] → w.script.cpus ≤ 64
@@ -368,6 +393,7 @@ routine_run all are w n cs has at named none room empty few fit count =
           (with_exit there, exit_step all there has.from refl, refl),
     )
 
+-- the rows of routines with new names are read as these routines, within the limits of routines and commands
 pub routines_run : (all : NameLists) → AreRead all → (ns : List (List ℕ)) (rs : List Routine) (w : Walk) → HasWords all w.version → length ns ≡ length rs →
     AreNew (((((w.names.dpcs ++ w.names.timers) ++ w.names.threads) ++ w.names.apcs) ++ w.names.locks) ++ w.names.routines) ns → w.body ≡ [] →
     w.script.cpus ≤ 64
@@ -411,10 +437,12 @@ routines_run all are (n ∷ ns) (r ∷ rs) w has len new empty few fit count roo
 
 -- ---- the head
 
+-- the version line is taken at the start of a text of version 2
 pub version_step : (all : NameLists) (w : Walk) → Between 0 0 w.place → 2 ≤ w.version → step all w (number_row keyword.Version 2) ≡ Ok (with_version w)
 version_step all w at two = step_again all w keyword.Version (decimal 2 ∷ []) at two refl
     ∙ ap (λ (r : Result ℕ ScriptKind). r >>= λ (n : ℕ). ok_if (n == 2) (with_version w) BadNumber) (number_again 4294967295 2 (lit< tt) (lit≤ tt))
 
+-- a line of processors is taken after the version if their number is from 1 to the version's limit
 pub cpus_step : (all : NameLists) (w : Walk) (n : ℕ) → 1 ≤ w.version → Between 1 1 w.place → 1 ≤ n → n ≤ most_cpus w.version →
     step all w (number_row keyword.Cpus n) ≡ Ok (with_cpus w n)
 cpus_step all w n old at low high =
@@ -422,10 +450,12 @@ cpus_step all w n old at low high =
     step_again all w keyword.Cpus (decimal n ∷ []) at old refl
     ∙ rw (number_again 4294967295 n (lit< tt) (omega (arith, few)), ne_eqb n 0 (λ z. omega arith), le-ltb (most_cpus w.version) n high) refl
 
+-- a line of the depth is taken right after the processors if the depth is at most 256
 pub depth_step : (all : NameLists) (w : Walk) (n : ℕ) → 1 ≤ w.version → Between 2 2 w.place → n ≤ 256 → step all w (number_row keyword.Depth n)
     ≡ Ok (with_depth w n)
 depth_step all w n old at high = step_again all w keyword.Depth (decimal n ∷ []) at old refl ∙ rw (number_again 256 n (lit< tt) high) refl
 
+-- a line that turns threaded DPCs on or off is taken after the processors or the depth
 pub threaded_step : (all : NameLists) (w : Walk) (on : Bool) → 1 ≤ w.version → Between 2 3 w.place →
     step all w (text_of keyword.Threaded ∷ on_off_text on ∷ []) ≡ Ok (with_threaded w on)
 threaded_step all w on old at = step_again all w keyword.Threaded (on_off_text on ∷ []) at old refl ∙ rw (on_off_again on) refl

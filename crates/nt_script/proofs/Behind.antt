@@ -31,11 +31,13 @@ use Rattle.nt_script.proofs.Soundness.{sound_fits}
 
 -- ---- a line that is taken begins with a keyword
 
+-- a row that is taken has a first field that is a keyword
 keyed : (all : NameLists) (w new : Walk) (row : Row) (o : Option Keyword) →
     (keyword_at w.place o >>= λ k. counted (length (rest row)) (arity k) >>= λ _. act all w k (rest row)) ≡ Ok new → IsSome o
 keyed all w new row None e = cc
 keyed all w new row (Some k) e = refl
 
+-- a line whose first field is a keyword does not begin with a word that is none
 begins_not : (v : ℕ) (word : List ℕ) (line : List ℕ × Bool) → keyword_of v word ≡ None → IsSome (keyword_of v (first (fields line.0))) →
     begins word line ≡ false
 begins_not v word line none some = go (bytes_eq (first (fields line.0)) word) refl
@@ -66,9 +68,11 @@ none_begins word all w n (line ∷ more) input none good few e =
 abbrev cut : ℕ → ℕ → Option (ℕ × ℕ)
 cut at n = Some (at, n)
 
+-- a cut at the same byte and the same line number is the same cut
 pairs : (a b c d : ℕ) → a ≡ b → c ≡ d → cut a c ≡ cut b d
 pairs a b c d e f = rw (e, f) refl
 
+-- if a word begins the first of the later lines and none of the earlier, the text is cut between them
 pub split_behind : (word : List ℕ) (at n : ℕ) (xs ys : List (List ℕ × Bool)) → list_any (begins word) xs ≡ false → first_begins word ys ≡ true →
     split_from word at n (xs ++ ys) ≡ cut (at + bytes_of xs) (n + length xs)
 split_behind word at n [] [] none there = cc
@@ -86,6 +90,7 @@ split_behind word at n (x ∷ xs) ys none there = go (begins word x) (list_any (
         on is ∙ pairs (at + (length x.0 + 1) + bytes_of xs) (at + (length x.0 + 1 + bytes_of xs)) (n + 1 + length xs) (n + suc (length xs)) (omega arith)
         (omega arith)
 
+-- the lines of rows have as many bytes, ends counted, as the text of the rows
 pub rows_bytes : (rows : List Row) → bytes_of (map line_of rows) ≡ length (rows_text rows)
 rows_bytes [] = refl
 rows_bytes (row ∷ rows) =

@@ -54,11 +54,13 @@ may_end InLocks w n h = refl
 may_end InRoutines w n h = refl
 may_end InRoutine w n h = absurd (omega (arith, h.1))
 
+-- a walk over the lines of rows that lead to a place where a text may end makes the script of that end
 walk_again : (all : NameLists) (w last : Walk) (n : ℕ) (rows : List Row) → AllRows rows → Steps all w rows last → Between 2 11 last.place →
     walk all w n (map line_of rows) ≡ Ok (made last)
 walk_again all w last n [] clean s opens = rw s (may_end last.place last n opens)
 walk_again all w last n (row ∷ rows) clean s opens = rw (row_again row clean.0, s.1) (walk_again all s.0 last (n + 1) rows clean.1 s.2 opens)
 
+-- the names collected from the lines of rows are those of the state that the rows lead to
 names_again : (all : NameLists) (w last : Walk) (rows : List Row) → AllRows rows → Steps all w rows last → Good w → AreFew w.names →
     names_from w.version w.names (map line_of rows) ≡ last.names
 names_again all w last [] clean s good few = ap (λ (w : Walk). w.names) s
@@ -71,10 +73,12 @@ names_again all w last (row ∷ rows) clean s good few =
 
 -- ---- the parts
 
+-- the place after a list of things is between the bounds that both choices are between
 after : {A : Type 0} (xs : List A) (p q : Place) (low high : ℕ) → Between low high p → Between low high q → Between low high (place_after xs p q)
 after [] p q low high h k = h
 after (x ∷ xs) p q low high h k = k
 
+-- a place between the start and a bound is also between the start and the next bound
 wider : (p : Place) (high : ℕ) → Between 2 high p → Between 2 (high + 1) p
 wider p high h = (h.0, omega (arith, h.1))
 
@@ -125,6 +129,7 @@ part_rows names script = map (isr_row names) script.isrs ++ from_dpcs names scri
 abbrev with_locks : Script → ℕ → Script
 with_locks script n = record script { locks = n }
 
+-- the rows of all parts after the head are read as the parts of the input and its names
 parts_run : (input : Input) → Fit input → (p : Place) → Between 2 4 p →
     Ran input.names (begun input.version input.script.cpus input.script.depth input.script.threaded p) (part_rows input.names input.script)
     (with_locks input.script (length input.names.locks)) input.names
@@ -204,6 +209,7 @@ abbrev place_given : {A : Type 0} → Option A → Place → Place → Place
 place_given None p q = p
 place_given (Some x) p q = q
 
+-- the version line is read as the version, for versions 1 and 2
 version_run : (all : NameLists) (v : ℕ) → 1 ≤ v → v ≤ 2 → Steps all (start v) (version_rows v) (with_version (start v))
 version_run all zero low high = absurd (omega (arith, low))
 version_run all (suc zero) low high = refl
@@ -211,18 +217,21 @@ version_run all (suc (suc zero)) low high =
     (with_version (start 2), version_step all (start 2) (omega arith, omega arith) (lit≤ tt), refl)
 version_run all (suc (suc (suc n))) low high = absurd (omega (arith, high))
 
+-- the depth line, if there is one, is read as the depth
 depth_run : (all : NameLists) (v n : ℕ) (depth : Option ℕ) → 1 ≤ v → IfSome depth (λ d. d ≤ 256) →
     Steps all (begun v n None None HasCpus) (depth_rows depth) (begun v n depth None (place_given depth HasCpus HasDepth))
 depth_run all v n None old h = refl
 depth_run all v n (Some d) old h =
     (begun v n (Some d) None HasDepth, depth_step all (begun v n None None HasCpus) d old (omega arith, omega arith) h, refl)
 
+-- the line on threaded DPCs, if there is one, is read as its setting
 threaded_run : (all : NameLists) (v n : ℕ) (depth : Option ℕ) (threaded : Option Bool) (p : Place) → 1 ≤ v → Between 2 3 p →
     Steps all (begun v n depth None p) (threaded_rows threaded) (begun v n depth threaded (place_given threaded p HasThreaded))
 threaded_run all v n depth None p old at = refl
 threaded_run all v n depth (Some on) p old at =
     (begun v n depth (Some on) HasThreaded, threaded_step all (begun v n depth None p) on old at, refl)
 
+-- the place after an optional line is between the bounds that both choices are between
 given : {A : Type 0} (o : Option A) (p q : Place) (low high : ℕ) → Between low high p → Between low high q → Between low high (place_given o p q)
 given None p q low high h k = h
 given (Some x) p q low high h k = k
@@ -231,6 +240,7 @@ given (Some x) p q low high h k = k
 abbrev counted_rows : Script → List Row
 counted_rows script = number_row keyword.Cpus script.cpus ∷ (depth_rows script.depth ++ threaded_rows script.threaded)
 
+-- the rows of an input that fits are read as its script and its names
 input_run : (input : Input) → Fit input → Ran input.names (start input.version) (input_rows input) input.script input.names
 input_run input s =
     let all = input.names in

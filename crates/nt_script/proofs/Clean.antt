@@ -39,6 +39,7 @@ use Rattle.nt_script.proofs.Fit.{Fit}
 
 -- ---- fields
 
+-- a byte that a name may have is a byte that a field may have
 name_byte_field : (c : ℕ) → is_name_byte c ≡ true → (nat_le 33 c && nat_le c 126) ≡ true
 name_byte_field c e =
     elim (or_cases (is_ascii_lowercase c || is_ascii_digit c) (c == 95) e) [
@@ -49,75 +50,93 @@ name_byte_field c e =
       | inr line ↦ rw (eqb-true c 95 line) refl
     ]
 
+-- bytes that a name may have make a field
 name_bytes_field : (bs : List ℕ) → list_all is_name_byte bs ≡ true → is_field bs ≡ true
 name_bytes_field [] e = refl
 name_bytes_field (c ∷ cs) e = let p = and_parts (is_name_byte c) (list_all is_name_byte cs) e in
     and_from (nat_le 33 c && nat_le c 126) (is_field cs) (name_byte_field c p.0) (name_bytes_field cs p.1)
 
+-- a name is a field
 pub name_field : (f : List ℕ) → is_name f ≡ true → is_field f ≡ true
 name_field f e = name_bytes_field f (and_parts (not (length f == 0) && nat_le (length f) 16) (list_all is_name_byte f) e).1
 
+-- two joined lists of rows of fields are one list of rows of fields
 pub rows_both : (a b : List Row) → AllRows a → AllRows b → AllRows (a ++ b)
 rows_both [] b p q = q
 rows_both (r ∷ a) b p q = (p.0, rows_both a b p.1 q)
 
+-- the name of each DPC object is a field
 pub dpc_field : (names : NameLists) (fit : NamesFit names) (i : ℕ) → i < length names.dpcs → is_field (get_or names.dpcs i []) ≡ true
 dpc_field names fit i lt = name_field (get_or names.dpcs i []) (is_new [] names.dpcs i fit.dpcs lt).0
 
+-- the name of each timer is a field
 pub timer_field : (names : NameLists) (fit : NamesFit names) (i : ℕ) → i < length names.timers → is_field (get_or names.timers i []) ≡ true
 timer_field names fit i lt = name_field (get_or names.timers i []) (is_new names.dpcs names.timers i fit.timers lt).0
 
+-- the name of each thread is a field
 pub thread_field : (names : NameLists) (fit : NamesFit names) (i : ℕ) → i < length names.threads → is_field (get_or names.threads i []) ≡ true
 thread_field names fit i lt = name_field (get_or names.threads i []) (is_new (names.dpcs ++ names.timers) names.threads i fit.threads lt).0
 
+-- the name of each APC object is a field
 pub apc_field : (names : NameLists) (fit : NamesFit names) (i : ℕ) → i < length names.apcs → is_field (get_or names.apcs i []) ≡ true
 apc_field names fit i lt = name_field (get_or names.apcs i []) (is_new ((names.dpcs ++ names.timers) ++ names.threads) names.apcs i fit.apcs lt).0
 
+-- the name of a lock is a field
 lock_field : (names : NameLists) (fit : NamesFit names) (i : ℕ) → i < length names.locks → is_field (get_or names.locks i []) ≡ true
 lock_field names fit i lt = name_field (get_or names.locks i [])
     (is_new (((names.dpcs ++ names.timers) ++ names.threads) ++ names.apcs) names.locks i fit.locks lt).0
 
+-- the name of a routine is a field
 routine_field : (names : NameLists) (fit : NamesFit names) (i : ℕ) → i < length names.routines → is_field (get_or names.routines i []) ≡ true
 routine_field names fit i lt = name_field (get_or names.routines i [])
     (is_new ((((names.dpcs ++ names.timers) ++ names.threads) ++ names.apcs) ++ names.locks) names.routines i fit.routines lt).0
 
+-- a processor of at most 64 is shown as a field
 cpu_field : (p : CpuNo) (cpus : ℕ) → cpus ≤ 64 → p.0 < cpus → is_field (show_cpu p) ≡ true
 cpu_field p cpus few lt = decimal_field p.0 (omega arith)
 
+-- the target processor of a thing, or its absence, is shown as a field
 target_field : (o : Option CpuNo) (cpus : ℕ) → cpus ≤ 64 → IfSome o (λ p. p.0 < cpus) → is_field (show_target o) ≡ true
 target_field None cpus few h = refl
 target_field (Some p) cpus few h = cpu_field p cpus few h
 
+-- the DPC of a timer, or its absence, is shown as a field
 timer_dpc_field : (names : NameLists) (fit : NamesFit names) (o : Option DpcNo) → IfSome o (λ d. d.0 < length names.dpcs) →
     is_field (show_unless dash (show_dpc names) o) ≡ true
 timer_dpc_field names fit None h = refl
 timer_dpc_field names fit (Some d) h = dpc_field names fit d.0 h
 
+-- the rundown routine of an APC, or its absence, is shown as a field
 rundown_field : (names : NameLists) (fit : NamesFit names) (o : Option RoutineNo) → IfSome o (λ r. r.0 < length names.routines) →
     is_field (show_unless dash (show_routine names) o) ≡ true
 rundown_field names fit None h = refl
 rundown_field names fit (Some r) h = routine_field names fit r.0 h
 
+-- the text of an importance is a field
 importance_field : (i : Importance) → is_field (importance_text i) ≡ true
 importance_field Low = refl
 importance_field Medium = refl
 importance_field MediumHigh = refl
 importance_field High = refl
 
+-- the text of a mode is a field
 mode_field : (m : Mode) → is_field (mode_text m) ≡ true
 mode_field Kernel = refl
 mode_field UserMode = refl
 
+-- the text that says if a wait is alertable is a field
 alertable_field : (m : Bool) → is_field (alertable_text m) ≡ true
 alertable_field true = refl
 alertable_field false = refl
 
+-- the text for on or off is a field
 on_off_field : (m : Bool) → is_field (on_off_text m) ≡ true
 on_off_field true = refl
 on_off_field false = refl
 
 -- ---- lines
 
+-- the row of a command that fits is a row of fields
 pub command_clean : (names : NameLists) (fit : NamesFit names) (cpus : ℕ) → cpus ≤ 64 → (c : Command) → CommandFits names cpus c → IsRow (command_row names c)
 command_clean names fit cpus few (cmd.Raise level) h = (refl, (decimal_field level (omega (arith, h)), tt))
 command_clean names fit cpus few (cmd.Lower level) h = (refl, (decimal_field level (omega (arith, h)), tt))
@@ -148,6 +167,7 @@ command_clean names fit cpus few (cmd.Acquire k) h = (refl, (lock_field names fi
 command_clean names fit cpus few (cmd.Unlock k) h = (refl, (lock_field names fit k.0 h, tt))
 command_clean names fit cpus few (cmd.Note number) h = (refl, (decimal_field number (omega (arith, h)), tt))
 
+-- the row of an interrupt routine that fits is a row of fields
 isr_clean : (names : NameLists) (fit : NamesFit names) (cpus : ℕ) → cpus ≤ 64 → (x : Isr) → IsrFits names cpus x → IsRow (isr_row names x)
 isr_clean names fit cpus few x h = (
   refl,
@@ -157,18 +177,22 @@ isr_clean names fit cpus few x h = (
   ),
 )
 
+-- the row of a DPC with a name is a row of fields
 dpc_clean : (names : NameLists) (fit : NamesFit names) (threaded : Bool) (r : RoutineNo) (n : List ℕ) → is_name n ≡ true → r.0 < length names.routines →
     IsRow (dpc_row names n (record { threaded = threaded; routine = r }))
 dpc_clean names fit true r n named h = (refl, (name_field n named, (routine_field names fit r.0 h, tt)))
 dpc_clean names fit false r n named h = (refl, (name_field n named, (routine_field names fit r.0 h, tt)))
 
+-- the row of a timer with a name that fits is a row of fields
 timer_clean : (names : NameLists) (fit : NamesFit names) (x : TimerDecl) (n : List ℕ) → is_name n ≡ true → TimerFits names x → IsRow (timer_row names n x)
 timer_clean names fit x n named h = (refl, (name_field n named, (timer_dpc_field names fit x.dpc h, tt)))
 
+-- the row of a thread with a name that fits is a row of fields
 thread_clean : (names : NameLists) (fit : NamesFit names) (cpus : ℕ) → cpus ≤ 64 → (x : ThreadDecl) (n : List ℕ) → is_name n ≡ true → ThreadFits names cpus x →
     IsRow (thread_row names n x)
 thread_clean names fit cpus few x n named h = (refl, (name_field n named, (cpu_field x.cpu cpus few h.0, (routine_field names fit x.routine.0 h.1, tt))))
 
+-- a field with an APC's normal and rundown routines after it is a row of fields
 apc_tail_clean : (names : NameLists) (fit : NamesFit names) (f : List ℕ) (k : ApcKind) (n d : Option RoutineNo) → is_field f ≡ true →
     IfSome n (λ r. r.0 < length names.routines) → IfSome d (λ r. r.0 < length names.routines) → IsRow (f ∷ (normal_args names n ++ rundown_args names k d))
 apc_tail_clean names fit f Special None d e h g = (e, tt)
@@ -178,6 +202,7 @@ apc_tail_clean names fit f Normal (Some n) d e h g = (e, (routine_field names fi
 apc_tail_clean names fit f User None d e h g = (e, (rundown_field names fit d g, tt))
 apc_tail_clean names fit f User (Some n) d e h g = (e, (routine_field names fit n.0 h, (rundown_field names fit d g, tt)))
 
+-- the row of an APC of a given kind with a name that fits is a row of fields
 apc_clean : (names : NameLists) (fit : NamesFit names) (k : ApcKind) (x : ApcDecl) (n : List ℕ) → x.kind ≡ k → is_name n ≡ true → ApcFits names x →
     IsRow (apc_row names n x)
 apc_clean names fit Special x n e named h = rw e (
@@ -216,17 +241,20 @@ apc_clean names fit User x n e named h = rw e (
 
 -- ---- parts
 
+-- if each thing that fits has a row of fields, so have all things of a list
 all_clean : {A : Type 0} (row : A → Row) (Fits : A → Type 0) → ((x : A) → Fits x → IsRow (row x)) → (xs : List A) → AllByRecursion Fits xs →
     AllRows (map row xs)
 all_clean row Fits clean [] h = tt
 all_clean row Fits clean (x ∷ xs) h = (clean x h.0, all_clean row Fits clean xs h.1)
 
+-- if each thing with a name has a row of fields, so have all things of a list with new names
 declared_clean : {A : Type 0} (row : List ℕ → A → Row) (Fits : A → Type 0) → ((x : A) (n : List ℕ) → is_name n ≡ true → Fits x → IsRow (row n x)) →
     (before ns : List (List ℕ)) (xs : List A) → AreNew before ns → AllByRecursion Fits xs → AllRows (declared_rows row ns xs)
 declared_clean row Fits clean before [] xs new h = tt
 declared_clean row Fits clean before (n ∷ ns) [] new h = tt
 declared_clean row Fits clean before (n ∷ ns) (x ∷ xs) new h = (clean x n new.0 h.0, declared_clean row Fits clean (before ++ n ∷ []) ns xs new.2 h.1)
 
+-- the rows of routines with new names and commands that fit are rows of fields
 routines_clean : (names : NameLists) (fit : NamesFit names) (cpus : ℕ) → cpus ≤ 64 → (before ns : List (List ℕ)) (rs : List Routine) → AreNew before ns →
     AllByRecursion (λ r. AllByRecursion (CommandFits names cpus) r.commands) rs → AllRows (routine_rows names ns rs)
 routines_clean names fit cpus few before [] rs new h = tt
@@ -237,10 +265,12 @@ routines_clean names fit cpus few before (n ∷ ns) (r ∷ rs) new h =
     (rows_both (begun_rows names n r.commands) (exit_row ∷ []) ((refl, (name_field n new.0, tt)), commands) ((refl, tt), tt))
     (routines_clean names fit cpus few (before ++ n ∷ []) ns rs new.2 h.1)
 
+-- the rows of locks with new names are rows of fields
 locks_clean : (before ns : List (List ℕ)) → AreNew before ns → AllRows (map lock_row ns)
 locks_clean before [] new = tt
 locks_clean before (n ∷ ns) new = ((refl, (name_field n new.0, tt)), locks_clean (before ++ n ∷ []) ns new.2)
 
+-- the version line, if it is written, is a row of fields
 version_clean : (v : ℕ) → v ≤ 2 → AllRows (version_rows v)
 version_clean v le = go (nat_le 2 v)
   where
@@ -248,20 +278,24 @@ version_clean v le = go (nat_le 2 v)
     go true = ((refl, (decimal_field v (omega (arith, le)), tt)), tt)
     go false = tt
 
+-- the depth line, if it is written, is a row of fields
 depth_clean : (o : Option ℕ) → IfSome o (λ n. n ≤ 256) → AllRows (depth_rows o)
 depth_clean None h = tt
 depth_clean (Some n) h = ((refl, (decimal_field n (omega arith), tt)), tt)
 
+-- the line on threaded DPCs, if it is written, is a row of fields
 threaded_clean : (o : Option Bool) → AllRows (threaded_rows o)
 threaded_clean None = tt
 threaded_clean (Some on) = ((refl, (on_off_field on, tt)), tt)
 
+-- if each of the eight parts of a text has rows of fields, so has the whole
 all_parts : (h i d t s a k o : List Row) → AllRows h → AllRows i → AllRows d → AllRows t → AllRows s → AllRows a → AllRows k → AllRows o →
     AllRows (h ++ (i ++ (d ++ (t ++ (s ++ (a ++ (k ++ o)))))))
 all_parts h i d t s a k o ph pi pd pt ps pa pk po = rows_both h (i ++ (d ++ (t ++ (s ++ (a ++ (k ++ o)))))) ph
     (rows_both i (d ++ (t ++ (s ++ (a ++ (k ++ o))))) pi (rows_both d (t ++ (s ++ (a ++ (k ++ o)))) pd
     (rows_both t (s ++ (a ++ (k ++ o))) pt (rows_both s (a ++ (k ++ o)) ps (rows_both a (k ++ o) pa (rows_both k o pk po))))))
 
+-- all rows of an input that fits are rows of fields
 pub input_clean : (input : Input) → Fit input → AllRows (input_rows input)
 input_clean input s =
     let names = input.names in

@@ -10,6 +10,7 @@ use Rattle.nt_line.specs.NameLists.{NameLists}
 use Rattle.nt_line.specs.Fits.{CommandFits, CommandNamed}
 use Rattle.nt_script.specs.Sound.{IsSound}
 
+-- a command that fits shows only things that have names
 pub fits_named : (names : NameLists) (cpus : ℕ) (c : Command) → CommandFits names cpus c → CommandNamed names c
 fits_named names cpus (cmd.Raise level) h = tt
 fits_named names cpus (cmd.Lower level) h = tt
@@ -42,6 +43,7 @@ fits_named names cpus (cmd.Note number) h = tt
 below : (i n m : ℕ) → n ≡ m → nat_lt i m ≡ true → i < n
 below i n m e h = let lt = ltb-true i m h in omega (arith, e, lt)
 
+-- a command that fits the script of a sound input shows only things that have names in the input
 pub sound_named : (input : Input) → IsSound input → (c : Command) → command_fits input.script c ≡ true → CommandNamed input.names c
 sound_named input s (cmd.Raise level) h = tt
 sound_named input s (cmd.Lower level) h = tt

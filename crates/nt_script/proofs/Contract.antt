@@ -24,10 +24,12 @@ reading_is_text bytes input e = record { sound = fit_sound input (reading_fits b
 pub text_is_read : (bytes : List ℕ) (input : Input) → IsTextOf bytes input → reading bytes ≡ Ok input
 text_is_read bytes input h = ap reading h.text ∙ reading_again input (sound_fits input h.sound)
 
+-- what a call that does what reading says finds is a sound input, and the bytes are its text
 pub is_found : (bytes : List ℕ) (r : Result Input ScriptRefusal) → GivesRead r (reading bytes) → IfOk r (IsTextOf bytes)
 is_found bytes (Ok input) h = reading_is_text bytes input h
 is_found bytes (Err e) h = tt
 
+-- two sound inputs with the same text are the same input
 pub same_input : (a b : Input) → IsSound a → IsSound b → text a ≡ text b → a ≡ b
 same_input a b s t e =
     let both : done a ≡ done b = sym (reading_again a (sound_fits a s)) ∙ ap reading e ∙ reading_again b (sound_fits b t) in

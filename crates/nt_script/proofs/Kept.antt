@@ -50,13 +50,16 @@ use Rattle.nt_script.proofs.Steps.{Good, empty, put_cpus_ok}
 use Rattle.nt_script.proofs.Acts.{ok, ok_is, apc_arity}
 use Rattle.nt_script.proofs.Whole.{went, step_named, ends, finished, first_low, version_range, good_start, few_none}
 
+-- what holds of all of a list and of one value more holds of all of the list with that value at its end
 pub all_more : {A : Type 0} (P : A → Type 0) (xs : List A) (x : A) → AllByRecursion P xs → P x → AllByRecursion P (xs ++ x ∷ [])
 all_more P [] x h p = (p, tt)
 all_more P (y ∷ ys) x h p = (h.0, all_more P ys x h.1 p)
 
+-- whatever holds of each member holds of all members of a list that is empty
 none_all : {A : Type 0} (P : A → Type 0) (xs : List A) → xs ≡ [] → AllByRecursion P xs
 none_all P xs e = rw e tt
 
+-- a name that is in neither of two lists is nowhere in one after the other, wherever the count begins
 nowhere_append : (n : List ℕ) (xs ys : List (List ℕ)) (k : ℕ) → position_from (bytes_eq n) k xs ≡ None → ((j : ℕ) → position_from (bytes_eq n) j ys ≡ None) →
     position_from (bytes_eq n) k (xs ++ ys) ≡ None
 nowhere_append n [] ys k e f = f k
@@ -68,6 +71,7 @@ nowhere_append n (x ∷ xs) ys k e f = go (bytes_eq n x) e (nowhere_append n xs 
     go true e more = absurd cc
     go false e more = more e f
 
+-- one more name that is in none of the lists keeps that all names are new
 new_more : (before ns : List (List ℕ)) (n : List ℕ) → AreNew before ns → is_name n ≡ true → place n (before ++ ns) ≡ None → AreNew before (ns ++ n ∷ [])
 new_more before [] n h named none = (named, subst (λ (b : List (List ℕ)). place n b ≡ None) (append-nil before) none, tt)
 new_more before (m ∷ ns) n h named none = (
@@ -99,9 +103,11 @@ record Unknown (n : List ℕ) (names : NameLists) : Type 0 where
   pub locks : place n ((((names.dpcs ++ names.timers) ++ names.threads) ++ names.apcs) ++ names.locks) ≡ None
   pub routines : place n (((((names.dpcs ++ names.timers) ++ names.threads) ++ names.apcs) ++ names.locks) ++ names.routines) ≡ None
 
+-- a name without a place in two lists has no place in both joined
 in_neither : (n : List ℕ) (xs ys : List (List ℕ)) → place n xs ≡ None → place n ys ≡ None → place n (xs ++ ys) ≡ None
 in_neither n xs ys e f = nowhere_append n xs ys 0 e (λ j. nowhere n ys 0 j f)
 
+-- a name that means nothing is in none of the lists of names
 unknown : (n : List ℕ) (names : NameLists) → is_some (meaning n names) ≡ false → Unknown n names
 unknown n names e =
     let u = nowhere_of (place n names.dpcs) (place n names.timers) (place n names.threads) (place n names.apcs) (place n names.locks)
@@ -134,6 +140,7 @@ fit_dpc names n fit ntimers nthreads napcs nlocks nroutines named none =
       routines = rw nroutines tt;
     }
 
+-- a new timer's name keeps that the names fit, if threads, APCs, locks and routines have none yet
 fit_timer : (names : NameLists) (n : List ℕ) → NamesFit names → names.threads ≡ [] → names.apcs ≡ [] → names.locks ≡ [] → names.routines ≡ [] →
     is_name n ≡ true → is_some (meaning n names) ≡ false → NamesFit (record names { timers = names.timers ++ n ∷ [] })
 fit_timer names n fit nthreads napcs nlocks nroutines named none =
@@ -147,6 +154,7 @@ fit_timer names n fit nthreads napcs nlocks nroutines named none =
       routines = rw nroutines tt;
     }
 
+-- a new thread's name keeps that the names fit, if APCs, locks and routines have none yet
 fit_thread : (names : NameLists) (n : List ℕ) → NamesFit names → names.apcs ≡ [] → names.locks ≡ [] → names.routines ≡ [] →
     is_name n ≡ true → is_some (meaning n names) ≡ false → NamesFit (record names { threads = names.threads ++ n ∷ [] })
 fit_thread names n fit napcs nlocks nroutines named none =
@@ -160,6 +168,7 @@ fit_thread names n fit napcs nlocks nroutines named none =
       routines = rw nroutines tt;
     }
 
+-- a new APC's name keeps that the names fit, if locks and routines have none yet
 fit_apc : (names : NameLists) (n : List ℕ) → NamesFit names → names.locks ≡ [] → names.routines ≡ [] →
     is_name n ≡ true → is_some (meaning n names) ≡ false → NamesFit (record names { apcs = names.apcs ++ n ∷ [] })
 fit_apc names n fit nlocks nroutines named none =
@@ -173,6 +182,7 @@ fit_apc names n fit nlocks nroutines named none =
       routines = rw nroutines tt;
     }
 
+-- a new lock's name keeps that the names fit, if routines have none yet
 fit_lock : (names : NameLists) (n : List ℕ) → NamesFit names → names.routines ≡ [] →
     is_name n ≡ true → is_some (meaning n names) ≡ false → NamesFit (record names { locks = names.locks ++ n ∷ [] })
 fit_lock names n fit nroutines named none =
@@ -186,6 +196,7 @@ fit_lock names n fit nroutines named none =
       routines = rw nroutines tt;
     }
 
+-- a new routine's name keeps that the names fit
 fit_routine : (names : NameLists) (n : List ℕ) → NamesFit names →
     is_name n ≡ true → is_some (meaning n names) ≡ false → NamesFit (record names { routines = names.routines ++ n ∷ [] })
 fit_routine names n fit named none =
@@ -227,10 +238,12 @@ pub record Kept (all : NameLists) (w : Walk) : Type 0 where
   pub commands : Commanded all w.script.cpus w.script.routines w.body w.commands
   pub things : Things all w.script.cpus w.script.isrs w.script.dpcs w.script.timers w.script.threads w.script.apcs
 
+-- a number that is not zero is at least one
 one_at_least : (n : ℕ) → (n ≡ 0 → ⊥) → 1 ≤ n
 one_at_least zero f = absurd (f refl)
 one_at_least (suc n) f = omega arith
 
+-- a count of processors that is taken is at least 1 and at most what the version allows
 cpus_range : (w : Walk) (n : ℕ) (new : Walk) → put_cpus w n ≡ Ok new → (1 ≤ n) × (n ≤ most_cpus w.version)
 cpus_range w n new e = go (n == 0) (nat_lt (most_cpus w.version) n) refl refl e
   where
@@ -240,12 +253,14 @@ cpus_range w n new e = go (n == 0) (nat_lt (most_cpus w.version) n) refl refl e
     go false true p q e = absurd cc
     go false false p q e = let no_zero = eqb-false n 0 p in let low = ltb-false (most_cpus w.version) n q in (one_at_least n no_zero, low)
 
+-- a routine added at the end adds its commands to the count of commands
 one_routine : (rs : List Routine) (cs : List Command) (n : ℕ) → command_count rs + length cs ≡ n → command_count (rs ++ record { commands = cs } ∷ []) + 0 ≡ n
 one_routine rs cs n e =
     let f : Routine → ℕ = λ r. length r.commands in
     let last : sum_by f (record { commands = cs } ∷ []) ≡ 0 + length cs = refl in
     omega (arith, e, last, sum_by-append f rs (record { commands = cs } ∷ []))
 
+-- a line that is taken keeps what holds of all that was read
 act_kept : (all : NameLists) → AreFew all → (w : Walk) (wd : Keyword) (args : List (List ℕ)) (new : Walk) → At w.place wd → since wd ≤ w.version →
     length args ≡ arity wd →
     act all w wd args ≡ Ok new → Good w → Kept all w → Kept all new
@@ -488,6 +503,7 @@ act_kept all few w (keyword.Call verb) args new at old len e good k0 =
 
 -- ---- all lines
 
+-- at the start, with nothing read, what holds of all that was read holds
 kept_start : (all : NameLists) (v : ℕ) → 1 ≤ v → Kept all (start v)
 kept_start all v one = record {
   version = one;
@@ -523,6 +539,7 @@ record Sane (all : NameLists) (input : Input) : Type 0 where
   pub good : Good last
   pub few : AreFew last.names
 
+-- a walk that makes an input ends in a state of which all that is kept holds
 sane : (all : NameLists) → AreFew all → (w : Walk) (n : ℕ) (ls : List TextLine) (input : Input) → walk all w n ls ≡ Ok input → Good w → AreFew w.names →
     Kept all w → Sane all input
 sane all small w n [] input e good few kept = record { last = w; number = n; finishes = e; kept = kept; good = good; few = few }

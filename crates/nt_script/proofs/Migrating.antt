@@ -9,6 +9,7 @@ use Rattle.nt_script.specs.Sound.{IsSound}
 use Rattle.nt_script.specs.Versions.{migrated}
 use Rattle.nt_script.proofs.Fit.{most_64}
 
+-- a sound input that is migrated to version 2 is still sound
 pub migrated_sound : (input : Input) → IsSound input → IsSound (migrated input)
 migrated_sound input s = record {
   version = (omega arith, omega arith);
@@ -25,8 +26,10 @@ migrated_sound input s = record {
   names = s.names;
 }
 
+-- the text of a migrated input of version 1 is the version line and then the old text
 pub one_line_more : (input : Input) → input.version ≡ 1 → text (migrated input) ≡ row_text (number_row keyword.Version 2) ++ text input
 one_line_more input e = rw e refl
 
+-- migrating an input of version 2 changes nothing
 pub two_stays : (input : Input) → input.version ≡ 2 → migrated input ≡ input
 two_stays input e = ap (λ (v : ℕ). record input { version = v }) (sym e)

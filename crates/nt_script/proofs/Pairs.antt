@@ -18,12 +18,15 @@ none_is (x ∷ xs) p level = go (is_isr_of p level x) (none_is xs p level)
     go true e = refl
     go false e = e
 
+-- the test for equal numbers does not depend on their order
 eqb_sym : (a b : ℕ) → (a == b) ≡ (b == a)
 eqb_sym a b = grind arith
 
+-- if one interrupt routine is for the pair of another, the other is for the pair of the one
 same_pair : (x y : Isr) → is_isr_of x.cpu x.level y ≡ is_isr_of y.cpu y.level x
 same_pair x y = rw (eqb_sym y.cpu.0 x.cpu.0, eqb_sym y.level x.level) refl
 
+-- a test holds of some member of a list exactly if it holds of the first or of some later one
 one_any : {A : Type 0} (p : A → Bool) (x : A) (xs : List A) → list_any p (x ∷ xs) ≡ (p x || list_any p xs)
 one_any p x xs = refl
 
@@ -38,6 +41,7 @@ apart_at (y ∷ ys) x more e =
     let here = or_parts (is_isr_of y.cpu y.level x) (stands_in more y.cpu y.level) parts.1 in
     or_from (is_isr_of x.cpu x.level y) (stands_in ys x.cpu x.level) (same_pair x y ∙ here.0) (apart_at ys x more b.1)
 
+-- if all interrupt routines are for different pairs, none before one of them is for its pair
 pub no_pair : (xs : List Isr) (x : Isr) (more : List Isr) → isrs_differ (xs ++ x ∷ more) ≡ true → is_none (isr_of xs x.cpu x.level) ≡ true
 no_pair xs x more e = none_is xs x.cpu x.level ∙ not_from_false (stands_in xs x.cpu x.level) (apart_at xs x more e)
 

@@ -98,6 +98,7 @@ replaced [] k new = []
 replaced (rows ∷ more) zero new = new ∷ more
 replaced (rows ∷ more) (suc k) new = rows ∷ replaced more k new
 
+-- parts that all have no rows have none together
 none_joined : (olds : List (List Row)) → NoRows olds zero → joined olds ≡ []
 none_joined [] none = refl
 none_joined (old ∷ olds) none = rw (none.0, none_joined olds none.1) refl
@@ -132,6 +133,7 @@ grow_part k all w new rows x lt head same grown none =
 
 -- ---- one more
 
+-- the rows of things with one more at the end are the rows of those before and the row of that one
 pub declared_more : {A : Type 0} (row : List ℕ → A → Row) (ns : List (List ℕ)) (xs : List A) (n : List ℕ) (x : A) → length ns ≡ length xs →
     declared_rows row (ns ++ n ∷ []) (xs ++ x ∷ []) ≡ declared_rows row ns xs ++ row n x ∷ []
 declared_more row [] [] n x e = refl
@@ -139,9 +141,11 @@ declared_more row [] (y ∷ ys) n x e = absurd (omega arith)
 declared_more row (m ∷ ns) [] n x e = absurd (omega arith)
 declared_more row (m ∷ ns) (y ∷ ys) n x e = ap (λ (rows : List Row). row m y ∷ rows) (declared_more row ns ys n x (omega arith))
 
+-- where there are no names there are no rows of things with names
 pub none_declared : {A : Type 0} (row : List ℕ → A → Row) (ns : List (List ℕ)) (xs : List A) → ns ≡ [] → declared_rows row ns xs ≡ []
 none_declared row ns xs e = rw e refl
 
+-- where there are no names of routines there are no rows of routines, ended or not
 pub none_opened : (all : NameLists) (body : List Command) (ns : List (List ℕ)) (rs : List Routine) → ns ≡ [] → open_rows all body ns rs ≡ []
 none_opened all body ns rs e = rw e refl
 

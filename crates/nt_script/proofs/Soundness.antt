@@ -26,6 +26,7 @@ use Rattle.nt_script.proofs.Fit.{Fit}
 
 -- ---- tests and what they say
 
+-- if the conjunction of eight tests holds, each of the eight holds
 eight : (a b c d e f g h : Bool) → (a && b && c && d && e && f && g && h) ≡ true → (a ≡ true) × (b ≡ true) × (c ≡ true) × (d ≡ true) × (e ≡ true) ×
     (f ≡ true) × (g ≡ true) × (h ≡ true)
 eight a b c d e f g h e0 =
@@ -38,10 +39,12 @@ eight a b c d e f g h e0 =
     let p1 = and_parts (a) b p2.0 in
     (p1.0, p1.1, p2.1, p3.1, p4.1, p5.1, p6.1, p7.1)
 
+-- if each of eight tests holds, their conjunction holds
 eight_from : (a b c d e f g h : Bool) → a ≡ true → b ≡ true → c ≡ true → d ≡ true → e ≡ true → f ≡ true → g ≡ true → h ≡ true →
     (a && b && c && d && e && f && g && h) ≡ true
 eight_from a b c d e f g h ea eb ec ed ee ef eg eh = rw (ea, eb, ec, ed, ee, ef, eg, eh) refl
 
+-- if the conjunction of ten tests holds, each of the ten holds
 ten : (a b c d e f g h i j : Bool) → (a && b && c && d && e && f && g && h && i && j) ≡ true → (a ≡ true) × (b ≡ true) × (c ≡ true) × (d ≡ true) ×
     (e ≡ true) × (f ≡ true) × (g ≡ true) × (h ≡ true) × (i ≡ true) × (j ≡ true)
 ten a b c d e f g h i j e0 =
@@ -56,16 +59,19 @@ ten a b c d e f g h i j e0 =
     let p1 = and_parts (a) b p2.0 in
     (p1.0, p1.1, p2.1, p3.1, p4.1, p5.1, p6.1, p7.1, p8.1, p9.1)
 
+-- if each of ten tests holds, their conjunction holds
 ten_from : (a b c d e f g h i j : Bool) → a ≡ true → b ≡ true → c ≡ true → d ≡ true → e ≡ true → f ≡ true → g ≡ true → h ≡ true → i ≡ true → j ≡ true →
     (a && b && c && d && e && f && g && h && i && j) ≡ true
 ten_from a b c d e f g h i j ea eb ec ed ee ef eg eh ei ej = rw (ea, eb, ec, ed, ee, ef, eg, eh, ei, ej) refl
 
+-- if the conjunction of three tests holds, each of the three holds
 three : (a b c : Bool) → (a && b && c) ≡ true → (a ≡ true) × (b ≡ true) × (c ≡ true)
 three a b c e0 =
     let p2 = and_parts (a && b) c e0 in
     let p1 = and_parts a b p2.0 in
     (p1.0, p1.1, p2.1)
 
+-- if the conjunction of five tests holds, each of the five holds
 five : (a b c d e : Bool) → (a && b && c && d && e) ≡ true → (a ≡ true) × (b ≡ true) × (c ≡ true) × (d ≡ true) × (e ≡ true)
 five a b c d e e0 =
     let p4 = and_parts (a && b && c && d) e e0 in
@@ -74,28 +80,35 @@ five a b c d e e0 =
     let p1 = and_parts a b p2.0 in
     (p1.0, p1.1, p2.1, p3.1, p4.1)
 
+-- if a test means a property, a list whose members all pass the test has the property at each member
 all_from : {A : Type 0} (p : A → Bool) (P : A → Type 0) → ((x : A) → p x ≡ true → P x) → (xs : List A) → list_all p xs ≡ true → AllByRecursion P xs
 all_from p P f [] e = tt
 all_from p P f (x ∷ xs) e = let b = and_parts (p x) (list_all p xs) e in (f x b.0, all_from p P f xs b.1)
 
+-- if a property means that a test holds, a list with the property at each member passes the test at all
 all_to : {A : Type 0} (p : A → Bool) (P : A → Type 0) → ((x : A) → P x → p x ≡ true) → (xs : List A) → AllByRecursion P xs → list_all p xs ≡ true
 all_to p P f [] h = refl
 all_to p P f (x ∷ xs) h = and_from (p x) (list_all p xs) (f x h.0) (all_to p P f xs h.1)
 
+-- if a test means a property, an optional value that passes the test where it is given has the property
 given_from : {A : Type 0} (has : A → Bool) (P : A → Type 0) → ((x : A) → has x ≡ true → P x) → (o : Option A) → where_given has o ≡ true → IfSome o P
 given_from has P f None e = tt
 given_from has P f (Some x) e = f x e
 
+-- if a property means that a test holds, an optional value with the property passes the test where given
 given_to : {A : Type 0} (has : A → Bool) (P : A → Type 0) → ((x : A) → P x → has x ≡ true) → (o : Option A) → IfSome o P → where_given has o ≡ true
 given_to has P f None h = refl
 given_to has P f (Some x) h = f x h
 
+-- a number that passes the test against a bound is below the equal bound
 below : (i n m : ℕ) → n ≡ m → nat_lt i m ≡ true → i < n
 below i n m e h = let lt = ltb-true i m h in omega (arith, e, lt)
 
+-- a number below a bound passes the test against the equal bound
 below_test : (i n m : ℕ) → n ≡ m → i < n → nat_lt i m ≡ true
 below_test i n m e h = lt-ltb i m (omega (arith, e, h))
 
+-- a level that may be requested is at most 15
 requested_low : (l : ℕ) → is_requested_level l ≡ true → l ≤ 15
 requested_low l e =
     elim (or_cases (nat_le 3 l && nat_le l 11) (l == 14) e) [
@@ -103,6 +116,7 @@ requested_low l e =
       | inr is ↦ (let same = eqb-true l 14 is in omega (arith, same))
     ]
 
+-- a level of an interrupt routine is at most 15
 isr_level_low : (l : ℕ) → is_isr_level l ≡ true → l ≤ 15
 isr_level_low l e =
     elim (or_cases (is_requested_level l) (l == 13) e) [
@@ -121,40 +135,51 @@ pub record Counts (s : Script) (names : NameLists) : Type 0 where
   pub routines : length names.routines ≡ length s.routines
   pub locks : length names.locks ≡ s.locks
 
+-- a routine that the script has is below the count of routine names
 routine_from : (s : Script) (names : NameLists) → Counts s names → (r : RoutineNo) → has_routine s r ≡ true → r.0 < length names.routines
 routine_from s names cs r e = below r.0 (length names.routines) (length s.routines) cs.routines e
 
+-- a routine below the count of routine names is one that the script has
 routine_to : (s : Script) (names : NameLists) → Counts s names → (r : RoutineNo) → r.0 < length names.routines → has_routine s r ≡ true
 routine_to s names cs r h = below_test r.0 (length names.routines) (length s.routines) cs.routines h
 
+-- a DPC that the script has is below the count of DPC names
 dpc_no_from : (s : Script) (names : NameLists) → Counts s names → (d : DpcNo) → has_dpc s d ≡ true → d.0 < length names.dpcs
 dpc_no_from s names cs d e = below d.0 (length names.dpcs) (length s.dpcs) cs.dpcs e
 
+-- a DPC below the count of DPC names is one that the script has
 dpc_no_to : (s : Script) (names : NameLists) → Counts s names → (d : DpcNo) → d.0 < length names.dpcs → has_dpc s d ≡ true
 dpc_no_to s names cs d h = below_test d.0 (length names.dpcs) (length s.dpcs) cs.dpcs h
 
+-- an interrupt routine that passes the test of the script fits its names and processors
 isr_from : (s : Script) (names : NameLists) → Counts s names → (x : Isr) → isr_fits s x ≡ true → IsrFits names s.cpus x
 isr_from s names cs x e =
     let t = three (has_cpu s x.cpu) (is_isr_level x.level) (has_routine s x.routine) e in
     (ltb-true x.cpu.0 s.cpus t.0, isr_level_low x.level t.1, t.1, routine_from s names cs x.routine t.2)
 
+-- an interrupt routine that fits the names and processors passes the test of the script
 isr_to : (s : Script) (names : NameLists) → Counts s names → (x : Isr) → IsrFits names s.cpus x → isr_fits s x ≡ true
 isr_to s names cs x h = and_from (has_cpu s x.cpu && is_isr_level x.level) (has_routine s x.routine)
     (and_from (has_cpu s x.cpu) (is_isr_level x.level) (lt-ltb x.cpu.0 s.cpus h.0) h.2) (routine_to s names cs x.routine h.3)
 
+-- a thread that passes the test of the script fits its names and processors
 thread_from : (s : Script) (names : NameLists) → Counts s names → (x : ThreadDecl) → thread_fits s x ≡ true → ThreadFits names s.cpus x
 thread_from s names cs x e = let b = and_parts (has_cpu s x.cpu) (has_routine s x.routine) e in
     (ltb-true x.cpu.0 s.cpus b.0, routine_from s names cs x.routine b.1)
 
+-- a thread that fits the names and processors passes the test of the script
 thread_to : (s : Script) (names : NameLists) → Counts s names → (x : ThreadDecl) → ThreadFits names s.cpus x → thread_fits s x ≡ true
 thread_to s names cs x h = and_from (has_cpu s x.cpu) (has_routine s x.routine) (lt-ltb x.cpu.0 s.cpus h.0) (routine_to s names cs x.routine h.1)
 
+-- a timer that passes the test of the script fits its names
 timer_from : (s : Script) (names : NameLists) → Counts s names → (x : TimerDecl) → timer_fits s x ≡ true → TimerFits names x
 timer_from s names cs x e = given_from (has_dpc s) (λ d. d.0 < length names.dpcs) (dpc_no_from s names cs) x.dpc e
 
+-- a timer that fits the names passes the test of the script
 timer_to : (s : Script) (names : NameLists) → Counts s names → (x : TimerDecl) → TimerFits names x → timer_fits s x ≡ true
 timer_to s names cs x h = given_to (has_dpc s) (λ d. d.0 < length names.dpcs) (dpc_no_to s names cs) x.dpc h
 
+-- an APC that passes the test of the script fits its names
 apc_from : (s : Script) (names : NameLists) → Counts s names → (x : ApcDecl) → apc_fits s x ≡ true → ApcFits names x
 apc_from s names cs x e =
     let f = five (has_thread s x.thread) (has_routine s x.kernel) (where_given (has_routine s) x.normal) (where_given (has_routine s) x.rundown)
@@ -167,6 +192,7 @@ apc_from s names cs x e =
       routines = f.4;
     }
 
+-- an APC that fits the names passes the test of the script
 apc_to : (s : Script) (names : NameLists) → Counts s names → (x : ApcDecl) → ApcFits names x → apc_fits s x ≡ true
 apc_to s names cs x h =
     let t = below_test x.thread.0 (length names.threads) (length s.threads) cs.threads h.thread in
@@ -179,6 +205,7 @@ apc_to s names cs x h =
     (and_from (has_thread s x.thread && has_routine s x.kernel) (where_given (has_routine s) x.normal)
     (and_from (has_thread s x.thread) (has_routine s x.kernel) t k) n) d) h.routines
 
+-- a command that fits the script, with numbers in their ranges, has a line that fits the names
 pub command_from : (s : Script) (names : NameLists) → Counts s names → (c : Command) → command_fits s c ≡ true → HasRange c → CommandFits names s.cpus c
 command_from s names cs (cmd.Raise level) e h = h
 command_from s names cs (cmd.Lower level) e h = h
@@ -209,6 +236,7 @@ command_from s names cs (cmd.Acquire k) e h = below k.0 (length names.locks) s.l
 command_from s names cs (cmd.Unlock k) e h = below k.0 (length names.locks) s.locks cs.locks e
 command_from s names cs (cmd.Note number) e h = h
 
+-- a command whose line fits the names fits the script, and its numbers are in their ranges
 pub command_to : (s : Script) (names : NameLists) → Counts s names → (c : Command) → CommandFits names s.cpus c → (command_fits s c ≡ true) × HasRange c
 command_to s names cs (cmd.Raise level) h = (refl, h)
 command_to s names cs (cmd.Lower level) h = (refl, h)
@@ -241,12 +269,14 @@ command_to s names cs (cmd.Acquire k) h = (below_test k.0 (length names.locks) s
 command_to s names cs (cmd.Unlock k) h = (below_test k.0 (length names.locks) s.locks cs.locks h, tt)
 command_to s names cs (cmd.Note number) h = (refl, h)
 
+-- commands that pass the test of the script and have their numbers in range fit the names and processors
 commands_from : (s : Script) (names : NameLists) → Counts s names → (cs : List Command) → list_all (command_fits s) cs ≡ true → AllByRecursion HasRange cs →
     AllByRecursion (CommandFits names s.cpus) cs
 commands_from s names n [] e h = tt
 commands_from s names n (c ∷ cs) e h = let b = and_parts (command_fits s c) (list_all (command_fits s) cs) e in
     (command_from s names n c b.0 h.0, commands_from s names n cs b.1 h.1)
 
+-- commands that fit the names and processors pass the test of the script and have their numbers in range
 commands_to : (s : Script) (names : NameLists) → Counts s names → (cs : List Command) → AllByRecursion (CommandFits names s.cpus) cs →
     (list_all (command_fits s) cs ≡ true) × AllByRecursion HasRange cs
 commands_to s names n [] h = (refl, tt)
@@ -255,12 +285,14 @@ commands_to s names n (c ∷ cs) h =
     let r = commands_to s names n cs h.1 in
     (and_from (command_fits s c) (list_all (command_fits s) cs) b.0 r.0, (b.1, r.1))
 
+-- routines that pass the test of the script, with numbers in range, have commands that fit the names
 routines_from : (s : Script) (names : NameLists) → Counts s names → (rs : List Routine) → list_all (routine_fits s) rs ≡ true →
     AllByRecursion (λ r. AllByRecursion HasRange r.commands) rs → AllByRecursion (λ r. AllByRecursion (CommandFits names s.cpus) r.commands) rs
 routines_from s names n [] e h = tt
 routines_from s names n (r ∷ rs) e h = let b = and_parts (routine_fits s r) (list_all (routine_fits s) rs) e in
     (commands_from s names n r.commands b.0 h.0, routines_from s names n rs b.1 h.1)
 
+-- routines whose commands fit the names pass the test of the script and have their numbers in range
 routines_to : (s : Script) (names : NameLists) → Counts s names → (rs : List Routine) →
     AllByRecursion (λ r. AllByRecursion (CommandFits names s.cpus) r.commands) rs → (list_all (routine_fits s) rs ≡ true) ×
     AllByRecursion (λ r. AllByRecursion HasRange r.commands) rs
@@ -272,6 +304,7 @@ routines_to s names n (r ∷ rs) h =
 
 -- ---- the whole input
 
+-- a sound input fits
 pub sound_fits : (input : Input) → IsSound input → Fit input
 sound_fits input i =
     let s = input.script in
@@ -314,6 +347,7 @@ sound_fits input i =
       routines = routines_from s names cs s.routines f.7 i.ranges;
     }
 
+-- an input that fits is sound
 pub fit_sound : (input : Input) → Fit input → IsSound input
 fit_sound input i =
     let s = input.script in

@@ -48,6 +48,7 @@ IsEmpty w _ = Unit {0}
 abbrev pub places : List Place
 places = Start ∷ HasVersion ∷ HasCpus ∷ HasDepth ∷ HasThreaded ∷ part_places
 
+-- each place of the walk stands in the list of places at its own number
 place_there : (p : Place) → get_or places (order p) Start ≡ p
 place_there Start = refl
 place_there _ = refl
@@ -116,9 +117,11 @@ later n w g le = empty_later places (suc (order w.place)) (suc n) w (omega arith
 abbrev pub Between : ℕ → ℕ → Place → Type 0
 Between low high p = (low ≤ order p) × (order p ≤ high)
 
+-- two lists of the same length stay so if each gets one member more
 one_longer : {A B : Type 0} (xs : List A) (ys : List B) (x : A) (y : B) → length xs ≡ length ys → length (xs ++ x ∷ []) ≡ length (ys ++ y ∷ [])
 one_longer xs ys x y e = omega (arith, e, length-append xs (x ∷ []), length-append ys (y ∷ []))
 
+-- a list with one more member at its end is longer by one
 one_more : {A : Type 0} (xs : List A) (x : A) (n : ℕ) → length xs ≡ n → length (xs ++ x ∷ []) ≡ suc n
 one_more xs x n e = omega (arith, e, length-append xs (x ∷ []))
 
@@ -133,6 +136,7 @@ no_rows all w InLocks e = rw e refl
 no_rows all w InRoutines e = none_opened all w.body w.names.routines w.script.routines e.0
 no_rows all w _ e = refl
 
+-- if nothing was read of the places from a number on, they have no rows from there on
 none_from : (all : NameLists) (w : Walk) (ps : List Place) (k : ℕ) → AreEmpty ps k w → NoRows (map (rows_at all w) ps) k
 none_from all w [] k empty = tt
 none_from all w (p ∷ ps) zero empty = (no_rows all w p empty.0, none_from all w ps zero empty.1)
@@ -148,15 +152,18 @@ same_head w low = sym (has_head w.place w.version w.script.cpus w.script.depth w
 
 -- ---- the head
 
+-- before the version line the head has no rows
 at_start : (p : Place) (v n : ℕ) (d : Option ℕ) (t : Option Bool) → order p ≤ 0 → heads_at p v n d t ≡ []
 at_start Start v n d t h = refl
 at_start _ v n d t h = absurd (omega (arith, h))
 
+-- at the version line the head has the version's rows alone
 at_version : (p : Place) (v n : ℕ) (d : Option ℕ) (t : Option Bool) → 1 ≤ order p → order p ≤ 1 → heads_at p v n d t ≡ version_rows v
 at_version HasVersion v n d t g h = refl
 at_version Start v n d t g h = absurd (omega (arith, g))
 at_version _ v n d t g h = absurd (omega (arith, h))
 
+-- what was read stays in order with the version line
 pub version_good : (w : Walk) → Between 0 0 w.place → Good w → Good (with_version w)
 version_good w at g = record {
   version = g.version;
@@ -169,9 +176,11 @@ version_good w at g = record {
   opened = λ h. absurd (omega (arith, h));
 }
 
+-- version 2 is written as one version line
 one_version : (v : ℕ) → v ≡ 2 → version_rows v ≡ number_row keyword.Version 2 ∷ []
 one_version v e = rw e refl
 
+-- the version line of a text of version 2 adds its row to the rows read so far
 pub version_taken : (all : NameLists) (w : Walk) → Between 0 0 w.place → w.version ≡ 2 → Good w → so_far all (with_version w) ≡ so_far all w
     ++ number_row keyword.Version 2 ∷ []
 version_taken all w at two g =
@@ -179,6 +188,7 @@ version_taken all w at two g =
     grow_head all w (with_version w) (number_row keyword.Version 2 ∷ []) (rw none (one_version w.version two)) refl
     (nothing 0 all w (later 4 w g (omega (arith, at.1))))
 
+-- a number of processors that is taken is put as it is
 pub put_cpus_ok : (w : Walk) (n : ℕ) (new : Walk) → put_cpus w n ≡ Ok new → with_cpus w n ≡ new
 put_cpus_ok w n new e = go (n == 0) (nat_lt (most_cpus w.version) n) e
   where
@@ -187,6 +197,7 @@ put_cpus_ok w n new e = go (n == 0) (nat_lt (most_cpus w.version) n) e
     go false true e = absurd cc
     go false false e = cc
 
+-- what was read stays in order with the line of processors
 pub cpus_good : (w : Walk) (n : ℕ) → Between 1 1 w.place → Good w → Good (with_cpus w n)
 cpus_good w n at g = record {
   version = g.version;
@@ -199,6 +210,7 @@ cpus_good w n at g = record {
   opened = λ h. absurd (omega (arith, h));
 }
 
+-- the line of processors adds its row to the rows read so far
 pub cpus_taken : (all : NameLists) (w : Walk) (n : ℕ) → Between 1 1 w.place → Good w → so_far all (with_cpus w n) ≡ so_far all w
     ++ number_row keyword.Cpus n ∷ []
 cpus_taken all w n at g =
@@ -207,6 +219,7 @@ cpus_taken all w n at g =
     (rw (before, empty w g HasDepth (omega (arith, at.1)), empty w g HasThreaded (omega (arith, at.1))) refl) refl
     (nothing 0 all w (later 4 w g (omega (arith, at.1))))
 
+-- what was read stays in order with the line of the depth
 pub depth_good : (w : Walk) (n : ℕ) → Between 2 2 w.place → Good w → Good (with_depth w n)
 depth_good w n at g = record {
   version = g.version;
@@ -219,6 +232,7 @@ depth_good w n at g = record {
   opened = λ h. absurd (omega (arith, h));
 }
 
+-- the line of the depth adds its row to the rows read so far
 pub depth_taken : (all : NameLists) (w : Walk) (n : ℕ) → Between 2 2 w.place → Good w → so_far all (with_depth w n) ≡ so_far all w
     ++ number_row keyword.Depth n ∷ []
 depth_taken all w n at g =
@@ -228,6 +242,7 @@ depth_taken all w n at g =
     (sym (append_assoc (version_rows w.version) (number_row keyword.Cpus w.script.cpus ∷ []) (number_row keyword.Depth n ∷ [])))) refl
     (nothing 0 all w (later 4 w g (omega (arith, at.1))))
 
+-- what was read stays in order with the line that turns threaded DPCs on or off
 pub threaded_good : (w : Walk) (on : Bool) → Between 2 3 w.place → Good w → Good (with_threaded w on)
 threaded_good w on at g = record {
   version = g.version;
@@ -244,6 +259,7 @@ threaded_good w on at g = record {
 last_head : (v : List Row) (h : Row) (rows : List Row) (r : Row) → v ++ (h ∷ (rows ++ r ∷ [])) ≡ (v ++ (h ∷ (rows ++ []))) ++ r ∷ []
 last_head v h rows r = rw (append-nil rows) (sym (append_assoc v (h ∷ rows) (r ∷ [])))
 
+-- the line that turns threaded DPCs on or off adds its row to the rows read so far
 pub threaded_taken : (all : NameLists) (w : Walk) (on : Bool) → Between 2 3 w.place → Good w → so_far all (with_threaded w on) ≡ so_far all w
     ++ (text_of keyword.Threaded ∷ on_off_text on ∷ []) ∷ []
 threaded_taken all w on at g =
@@ -256,6 +272,7 @@ threaded_taken all w on at g =
 
 -- ---- the parts
 
+-- what was read stays in order with one interrupt routine more
 pub isr_good : (w : Walk) (x : Isr) → Between 2 5 w.place → Good w → Good (with_isr w x)
 isr_good w x at g = record {
   version = g.version;
@@ -268,11 +285,13 @@ isr_good w x at g = record {
   opened = λ h. absurd (omega (arith, h));
 }
 
+-- one interrupt routine more adds its row to the rows read so far
 pub isr_taken : (all : NameLists) (w : Walk) (x : Isr) → Between 2 5 w.place → Good w → so_far all (with_isr w x) ≡ so_far all w ++ isr_row all x ∷ []
 isr_taken all w x at g =
     grow_part 0 all w (with_isr w x) (isrs all (with_isr w x)) (isr_row all x ∷ []) (omega arith) (same_head w at.0) refl
     (map-append (isr_row all) w.script.isrs (x ∷ [])) (nothing 1 all w (later 5 w g at.1))
 
+-- what was read stays in order with one DPC object more
 pub dpc_good : (w : Walk) (name : List ℕ) (x : DpcDecl) → Between 2 6 w.place → Good w → Good (with_dpc w name x)
 dpc_good w name x at g = record {
   version = g.version;
@@ -285,12 +304,14 @@ dpc_good w name x at g = record {
   opened = λ h. absurd (omega (arith, h));
 }
 
+-- one DPC object more adds its row to the rows read so far
 pub dpc_taken : (all : NameLists) (w : Walk) (name : List ℕ) (x : DpcDecl) → Between 2 6 w.place → Good w → so_far all (with_dpc w name x) ≡ so_far all w
     ++ dpc_row all name x ∷ []
 dpc_taken all w name x at g =
     grow_part 1 all w (with_dpc w name x) (dpcs all (with_dpc w name x)) (dpc_row all name x ∷ []) (omega arith) (same_head w at.0) refl
     (declared_more (dpc_row all) w.names.dpcs w.script.dpcs name x g.dpcs) (nothing 2 all w (later 6 w g at.1))
 
+-- what was read stays in order with one timer more
 pub timer_good : (w : Walk) (name : List ℕ) (x : TimerDecl) → Between 2 7 w.place → Good w → Good (with_timer w name x)
 timer_good w name x at g = record {
   version = g.version;
@@ -303,12 +324,14 @@ timer_good w name x at g = record {
   opened = λ h. absurd (omega (arith, h));
 }
 
+-- one timer more adds its row to the rows read so far
 pub timer_taken : (all : NameLists) (w : Walk) (name : List ℕ) (x : TimerDecl) → Between 2 7 w.place → Good w → so_far all (with_timer w name x) ≡ so_far all w
     ++ timer_row all name x ∷ []
 timer_taken all w name x at g =
     grow_part 2 all w (with_timer w name x) (timers all (with_timer w name x)) (timer_row all name x ∷ []) (omega arith) (same_head w at.0) refl
     (declared_more (timer_row all) w.names.timers w.script.timers name x g.timers) (nothing 3 all w (later 7 w g at.1))
 
+-- what was read stays in order with one thread more
 pub thread_good : (w : Walk) (name : List ℕ) (x : ThreadDecl) → Between 2 8 w.place → Good w → Good (with_thread w name x)
 thread_good w name x at g = record {
   version = g.version;
@@ -321,12 +344,14 @@ thread_good w name x at g = record {
   opened = λ h. absurd (omega (arith, h));
 }
 
+-- one thread more adds its row to the rows read so far
 pub thread_taken : (all : NameLists) (w : Walk) (name : List ℕ) (x : ThreadDecl) → Between 2 8 w.place → Good w → so_far all (with_thread w name x)
     ≡ so_far all w ++ thread_row all name x ∷ []
 thread_taken all w name x at g =
     grow_part 3 all w (with_thread w name x) (threads all (with_thread w name x)) (thread_row all name x ∷ []) (omega arith) (same_head w at.0) refl
     (declared_more (thread_row all) w.names.threads w.script.threads name x g.threads) (nothing 4 all w (later 8 w g at.1))
 
+-- what was read stays in order with one APC object more
 pub apc_good : (w : Walk) (name : List ℕ) (x : ApcDecl) → Between 2 9 w.place → Good w → Good (with_apc w name x)
 apc_good w name x at g = record {
   version = g.version;
@@ -339,12 +364,14 @@ apc_good w name x at g = record {
   opened = λ h. absurd (omega (arith, h));
 }
 
+-- one APC object more adds its row to the rows read so far
 pub apc_taken : (all : NameLists) (w : Walk) (name : List ℕ) (x : ApcDecl) → Between 2 9 w.place → Good w → so_far all (with_apc w name x) ≡ so_far all w
     ++ apc_row all name x ∷ []
 apc_taken all w name x at g =
     grow_part 4 all w (with_apc w name x) (apcs all (with_apc w name x)) (apc_row all name x ∷ []) (omega arith) (same_head w at.0) refl
     (declared_more (apc_row all) w.names.apcs w.script.apcs name x g.apcs) (nothing 5 all w (later 9 w g at.1))
 
+-- what was read stays in order with one lock more
 pub lock_good : (w : Walk) (name : List ℕ) → Between 2 10 w.place → Good w → Good (with_lock w name)
 lock_good w name at g = record {
   version = g.version;
@@ -357,12 +384,14 @@ lock_good w name at g = record {
   opened = λ h. absurd (omega (arith, h));
 }
 
+-- one lock more adds its row to the rows read so far
 pub lock_taken : (all : NameLists) (w : Walk) (name : List ℕ) → Between 2 10 w.place → Good w → so_far all (with_lock w name) ≡ so_far all w
     ++ lock_row name ∷ []
 lock_taken all w name at g =
     grow_part 5 all w (with_lock w name) (locks (with_lock w name)) (lock_row name ∷ []) (omega arith) (same_head w at.0) refl
     (map-append lock_row w.names.locks (name ∷ [])) (nothing 6 all w (later 10 w g at.1))
 
+-- what was read stays in order when a routine begins
 pub routine_good : (w : Walk) (name : List ℕ) → Between 2 11 w.place → Good w → Good (with_routine w name)
 routine_good w name at g = record {
   version = g.version;
@@ -375,6 +404,7 @@ routine_good w name at g = record {
   opened = λ h. one_more w.names.routines name (length w.script.routines) (empty w g InRoutine (omega (arith, at.1))).1;
 }
 
+-- a routine that begins adds its first row to the rows read so far
 pub routine_taken : (all : NameLists) (w : Walk) (name : List ℕ) → Between 2 11 w.place → Good w → so_far all (with_routine w name) ≡ so_far all w
     ++ (text_of keyword.Routine ∷ name ∷ []) ∷ []
 routine_taken all w name at g =
@@ -387,6 +417,7 @@ routine_taken all w name at g =
 inside : (w : Walk) → Between 12 12 w.place → Good w → length w.names.routines ≡ suc (length w.script.routines)
 inside w at g = g.opened (omega (arith, at.0, at.1))
 
+-- what was read stays in order when a routine ends
 pub exit_good : (w : Walk) → Between 12 12 w.place → Good w → Good (with_exit w)
 exit_good w at g = record {
   version = g.version;
@@ -399,11 +430,13 @@ exit_good w at g = record {
   opened = λ h. absurd (omega (arith, h));
 }
 
+-- a routine that ends adds its last row to the rows read so far
 pub exit_taken : (all : NameLists) (w : Walk) → Between 12 12 w.place → Good w → so_far all (with_exit w) ≡ so_far all w ++ exit_row ∷ []
 exit_taken all w at g =
     grow_part 6 all w (with_exit w) (routines all (with_exit w)) (exit_row ∷ []) (omega arith) (same_head w (omega (arith, at.0))) refl
     (exit_more all w.body w.names.routines w.script.routines (inside w at g)) (refl, tt)
 
+-- what was read stays in order with one command more in a routine
 pub command_good : (w : Walk) (c : Command) → Between 12 12 w.place → Good w → Good (with_command w c)
 command_good w c at g = record {
   version = g.version;
@@ -416,6 +449,7 @@ command_good w c at g = record {
   opened = λ h. inside w at g;
 }
 
+-- one command more in a routine adds its row to the rows read so far
 pub command_taken : (all : NameLists) (w : Walk) (c : Command) → Between 12 12 w.place → Good w → so_far all (with_command w c) ≡ so_far all w
     ++ command_row all c ∷ []
 command_taken all w c at g =

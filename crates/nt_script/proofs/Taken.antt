@@ -30,6 +30,7 @@ use Rattle.nt_line.proofs.UsedNames.{new_name_takes}
 abbrev pub At : Place → Keyword → Type 0
 At p wd = (earliest wd ≤ order p) × (order p ≤ latest wd)
 
+-- a keyword that is taken at a place is the one that was read, and may stand there
 pub at_ok : (p : Place) (o : Option Keyword) (wd : Keyword) → keyword_at p o ≡ Ok wd → (o ≡ Some wd) × At p wd
 at_ok p None wd e = absurd cc
 at_ok p (Some v) wd e =
@@ -37,10 +38,12 @@ at_ok p (Some v) wd e =
     let b = and_parts (nat_le (earliest v) (order p)) (nat_le (order p) (latest v)) r.0 in
     (ap (λ (u : Keyword). Some u) r.1, subst (At p) r.1 (leb-true (earliest v) (order p) b.0, leb-true (order p) (latest v) b.1))
 
+-- a keyword that may stand at a place is taken there
 pub at_again : (p : Place) (wd : Keyword) → At p wd → keyword_at p (Some wd) ≡ Ok wd
 at_again p wd h = let b : stands p wd ≡ true = and_from (nat_le (earliest wd) (order p)) (nat_le (order p) (latest wd)) (le-leb (earliest wd) (order p) h.0)
     (le-leb (order p) (latest wd) h.1) in rw b refl
 
+-- if the count of fields is taken, there are as many as wanted
 pub counted_ok : (there wanted : ℕ) (b : Bool) → counted there wanted ≡ Ok b → there ≡ wanted
 counted_ok there wanted b e = go (nat_lt there wanted) (nat_lt wanted there) refl refl e
   where
@@ -50,6 +53,7 @@ counted_ok there wanted b e = go (nat_lt there wanted) (nat_lt wanted there) ref
     go false true p q e = absurd cc
     go false false p q e = let low = ltb-false there wanted p in let high = ltb-false wanted there q in omega arith
 
+-- the text of a verb is not empty
 verb_there : (v : Verb) → 0 < length (verb_text v)
 verb_there verb.Raise = lit< tt
 verb_there verb.Lower = lit< tt
@@ -78,6 +82,7 @@ verb_there verb.Acquire = lit< tt
 verb_there verb.Unlock = lit< tt
 verb_there verb.Note = lit< tt
 
+-- the text of a keyword is not empty
 text_there : (w : Keyword) → 0 < length (text_of w)
 text_there keyword.Version = lit< tt
 text_there keyword.Cpus = lit< tt
@@ -96,6 +101,7 @@ text_there keyword.Routine = lit< tt
 text_there keyword.Exit = lit< tt
 text_there (keyword.Call v) = verb_there v
 
+-- a row whose first field is a keyword's text is that text and the row's other fields
 row_parts : (row : Row) (w : Keyword) → first row ≡ text_of w → row ≡ text_of w ∷ rest row
 row_parts [] w e = absurd (let none : 0 ≡ length (text_of w) = ap length e in omega (arith, text_there w))
 row_parts (f ∷ fs) w e = ap (λ (g : List ℕ). g ∷ fs) e
@@ -110,6 +116,7 @@ pub record Line (all : NameLists) (w : Walk) (row : Row) (new : Walk) : Type 0 w
   pub count : length (rest row) ≡ arity keyword
   pub acts : act all w keyword (rest row) ≡ Ok new
 
+-- a line that is taken has a keyword of its version that may stand there, and as many fields as it wants
 pub step_ok : (all : NameLists) (w : Walk) (row : Row) (new : Walk) → step all w row ≡ Ok new → Line all w row new
 step_ok all w row new e =
     let b = bind_ok (keyword_at w.place (keyword_of w.version (first row)))
@@ -140,6 +147,7 @@ pub record Declared {A : Type 0} (names : NameLists) (read : Row → Result A Sc
   pub read_is : read (rest args) ≡ Ok thing
   pub made : put name thing ≡ Ok new
 
+-- a declaration that is taken has a new name, and behind it fields that are read as the thing
 pub declared_ok : {A : Type 0} (names : NameLists) (read : Row → Result A ScriptKind) (put : List ℕ → A → Result Walk ScriptKind) (args : Row) (new : Walk) →
     declaration names read put args ≡ Ok new → Declared names read put args new
 declared_ok {A = A} names read put args new e =
@@ -161,10 +169,12 @@ pub args_parts : (args : Row) (n : ℕ) → length args ≡ suc n → (args ≡ 
 args_parts [] n e = absurd (omega arith)
 args_parts (a ∷ args) n e = (refl, omega arith)
 
+-- a row of one field is its first field alone
 pub one_field : (args : Row) → length args ≡ 1 → args ≡ first args ∷ []
 one_field [] e = absurd (omega arith)
 one_field (a ∷ []) e = refl
 one_field (a ∷ b ∷ args) e = absurd (omega arith)
 
+-- a row with this first field and these fields behind it is the two put together
 pub field_and : (args : Row) (name : List ℕ) (more : Row) → args ≡ first args ∷ rest args → first args ≡ name → rest args ≡ more → args ≡ name ∷ more
 field_and args name more e f g = e ∙ ap (λ (n : List ℕ). n ∷ rest args) f ∙ ap (λ (r : Row). name ∷ r) g

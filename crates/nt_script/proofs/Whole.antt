@@ -59,9 +59,11 @@ new_declared : (v : ℕ) (k : Kind) (names : NameLists) (row : Row) (wd : Keywor
     first (rest row) ≡ name → is_name name ≡ true → is_some (meaning name names) ≡ false → names_after v names row ≡ with_name k name names
 new_declared v k names row wd name is dk same named none = rw (is, dk, same, named, none) refl
 
+-- a list shorter than the limit is within the limit after it got one more member
 fits_more : {A : Type 0} (xs : List A) (x : A) (n most : ℕ) → length xs ≡ n → nat_lt n most ≡ true → length (xs ++ x ∷ []) ≤ most
 fits_more xs x n most e t = let lt = ltb-true n most t in omega (arith, e, lt, length-append xs (x ∷ []))
 
+-- a line that is taken keeps the version, adds its name to the names, and leaves them few and the state good
 act_named : (all : NameLists) (w : Walk) (wd : Keyword) (row : Row) (new : Walk) → keyword_of w.version (first row) ≡ Some wd → At w.place wd →
     act all w wd (rest row)
     ≡ Ok new → Good w → AreFew w.names → Named w row new
@@ -200,6 +202,7 @@ act_named all w (keyword.Call verb) row new is at e good few =
     let o = ok_if_ok (nat_lt w.commands 8192) (with_command w b.value) (TooMany what.Commands) new b.then in
     subst (Named w row) o.1 (record { version = refl; names = rw is refl; few = few; good = command_good w b.value at good })
 
+-- a line that is taken adds just the name that it declares, and what was read stays in order
 pub step_named : (all : NameLists) (w : Walk) (row : Row) (new : Walk) → step all w row ≡ Ok new → Good w → AreFew w.names → Named w row new
 step_named all w row new e good few =
     let l = step_ok all w row new e in
@@ -222,6 +225,7 @@ pub record Went (all : NameLists) (w : Walk) (n : ℕ) (line : TextLine) (more :
   pub steps : step all w row ≡ Ok new
   pub goes_on : walk all new (n + 1) more ≡ Ok input
 
+-- if a walk over lines gives an input, its first line is a row that is taken, and the walk goes on from there
 pub went : (all : NameLists) (w : Walk) (n : ℕ) (line : TextLine) (more : List TextLine) (input : Input) → walk all w n (line ∷ more) ≡ Ok input →
     Went all w n line more input
 went all w n line more input e = go (line_step all w line) refl e
@@ -241,6 +245,7 @@ pub record Ends (w : Walk) (ls : List TextLine) (input : Input) : Type 0 where
   pub few : AreFew last.names
   pub good : Good last
 
+-- a walk that gives an input ends in order, with the names that all its lines declare
 pub ends : (all : NameLists) (w : Walk) (n : ℕ) (ls : List TextLine) (input : Input) → walk all w n ls ≡ Ok input → Good w → AreFew w.names → Ends w ls input
 ends all w n [] input e good few = record { last = w; number = n; finishes = e; names = refl; few = few; good = good }
 ends all w n (line ∷ more) input e good few =
@@ -262,6 +267,7 @@ record Rows (all : NameLists) (w : Walk) (ls : List TextLine) (input : Input) : 
   pub good : Good last
   pub rows_are : so_far all last ≡ so_far all w ++ rows
 
+-- a text that is read is the lines of rows, which lead from the state to the end of the walk
 rows_of : (all : NameLists) → AreFew all → (w : Walk) (n : ℕ) (ls : List TextLine) (input : Input) → walk all w n ls ≡ Ok input → Good w → AreFew w.names →
     Rows all w ls input
 rows_of all few w n [] input e good named = record {
@@ -291,6 +297,7 @@ rows_of all few w n (line ∷ more) input e good named =
 abbrev pub made : Walk → Input
 made w = record { version = w.version; script = w.script; names = w.names }
 
+-- a walk that is done with an input gives that input
 done_is : (x y : Input) → done x ≡ Ok y → x ≡ y
 done_is x y e = cc
 
@@ -300,6 +307,7 @@ pub record Finished (p : Place) (w : Walk) (input : Input) : Type 0 where
   pub low : 2 ≤ order p
   pub high : order p ≤ 11
 
+-- a text may end only after the processors and outside a routine, and what was read is then the input
 pub finished : (p : Place) (w : Walk) (n : ℕ) (input : Input) → finish p w n ≡ Ok input → Finished p w input
 finished Start w n input e = absurd cc
 finished HasVersion w n input e = absurd cc
@@ -343,6 +351,7 @@ start_empty v InIsrs = refl
 start_empty v InLocks = refl
 start_empty v _ = (refl, refl)
 
+-- before the first line what was read is in order
 pub good_start : (v : ℕ) → v ≤ 2 → Good (start v)
 good_start v le = record {
   version = le;
@@ -362,6 +371,7 @@ none_yet all (suc zero) le = refl
 none_yet all (suc (suc zero)) le = refl
 none_yet all (suc (suc (suc n))) le = absurd (omega (arith, le))
 
+-- the version of a text is 1 or 2
 pub version_range : (ls : List TextLine) → (1 ≤ version_of ls) × (version_of ls ≤ 2)
 version_range [] = (omega arith, omega arith)
 version_range (line ∷ more) = go (bytes_eq (first (fields line.0)) (text_of keyword.Version))
@@ -370,6 +380,7 @@ version_range (line ∷ more) = go (bytes_eq (first (fields line.0)) (text_of ke
     go true = (omega arith, omega arith)
     go false = (omega arith, omega arith)
 
+-- no names at all are within the limits
 pub few_none : AreFew no_names
 few_none = record { dpcs = omega arith; timers = omega arith; threads = omega arith; apcs = omega arith; locks = omega arith; routines = omega arith }
 

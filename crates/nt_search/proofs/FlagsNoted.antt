@@ -33,6 +33,7 @@ pub record AreNotedTo (watched : List Watched) (e : Event) (old now : List Bool)
       Tells (get_or now k b) (Came (get_or watched k d) (e ∷ past))
   pub rest : (k : ℕ) (b : Bool) → i ≤ k → get_or now k b ≡ get_or old k b
 
+-- before any flag is looked at, the flags of all watched events are as they were
 pub none_noted : (watched : List Watched) (e : Event) (old : List Bool) → AreNotedTo watched e old old 0
 none_noted watched e old = record { count = refl; done = λ past a k b d l low. absurd (omega (arith, l)); rest = λ k b l. refl }
 

@@ -23,9 +23,11 @@ pub record AreJudgedTo (P : Expectation → Type 0) (f : Failure) (xs : List Exp
   pub done : (j : ℕ) (d : Expectation) → j < i → j < length xs → IsJudgedOne P f (get_or xs j d) (get_or old j None) (get_or now j None)
   pub rest : (j : ℕ) → i ≤ j → get_or now j None ≡ get_or old j None
 
+-- before any expectation is judged, all noted failures are as they were
 pub none_judged : (P : Expectation → Type 0) (f : Failure) (xs : List Expectation) (old : List (Option Failure)) → AreJudgedTo P f xs old old 0
 none_judged P f xs old = record { count = refl; done = λ j d l low. absurd (omega (arith, l)); rest = λ j l. refl }
 
+-- once the place is at the end of the list, all expectations are judged
 pub all_judged : (P : Expectation → Type 0) (f : Failure) (xs : List Expectation) (old now : List (Option Failure)) (i : ℕ) → length xs ≤ i →
     AreJudgedTo P f xs old now i → AreJudged P f xs old now
 all_judged P f xs old now i all h = record { count = h.count; each = λ j d l. h.done j d (omega (arith, all, l)) l }
@@ -79,6 +81,7 @@ module _ (P : Expectation → Type 0) (f : Failure) (xs : List Expectation) (old
 
 -- ---- the flags of an expectation among those of all
 
+-- flags of what came of two joined lists are those of the first and then of the second list
 came_parts : (us vs : List Watched) (past : List Event) (flags : List Bool) → AreCame (us ++ vs) past flags →
     AreCame us past (take (length us) flags) × AreCame vs past (drop (length us) flags)
 came_parts [] vs past flags a = (tt, a)
@@ -128,10 +131,12 @@ module _ (xs : List Expectation) (i place next : ℕ) (x : Expectation) (low : i
 
 -- ---- the failure at a place, as it is read
 
+-- if none is read at a place of the noted failures, none is noted there
 pub read_none : (now : List (Option Failure)) (i : ℕ) (o : Option Failure) → o ≡ get_or now i o → is_none o ≡ true → get_or now i None ≡ None
 read_none now i None e q = sym e
 read_none now i (Some g) e q = cc
 
+-- if one is read at a place of the noted failures, a failure is noted there
 pub read_some : (now : List (Option Failure)) (i : ℕ) (o : Option Failure) → i < length now → o ≡ get_or now i o → is_none o ≡ false →
     (g : Failure) × (get_or now i None ≡ Some g)
 read_some now i None l e q = cc
@@ -149,6 +154,7 @@ pub told_true : (P : Type 0) (b : Bool) → b ≡ true → Tells b P → P
 told_true P true q t = t
 told_true P false q t = cc
 
+-- a test that is false tells that what it tests does not hold
 pub told_false : (P : Type 0) (b : Bool) → b ≡ false → Tells b P → P → ⊥
 told_false P false q t = t
 told_false P true q t = cc
@@ -168,6 +174,7 @@ none_is None b e q = refl
 none_is (Some g) true e q = cc
 none_is (Some g) false e q = cc
 
+-- if the test whether a failure is noted answers yes, the test whether none is answers no
 pub some_is : (o : Option Failure) (b : Bool) → is_some o ≡ not b → b ≡ false → is_none o ≡ false
 some_is None true e q = cc
 some_is None false e q = cc

@@ -25,6 +25,7 @@ module _ (s : Script) (all : List (List Event)) (ways : List Way) (are : AreWays
   pub lead_on : (turns : List Turn) (h : List Event) → Lead s turns (get_or all n []) h → Lead s (way.turn ∷ turns) (get_or all way.from []) h
   lead_on turns h lead = (to.event, to.gives, subst (λ (k : List Event). Lead s turns k h) to.is lead)
 
+-- turns in reverse that lead to a history do so with one more turn at the front, if it is added at the end
 pub lead_back : (s : Script) (turns more : List Turn) (t : Turn) (past h : List Event) → more ≡ turns ++ t ∷ [] → Lead s (t ∷ reverse turns) past h →
     Lead s (reverse more) past h
 lead_back s turns more t past h e lead =

@@ -37,10 +37,12 @@ pub on_ok : {A B P Q : Type 0} → (r : Result A B) → (P → Q) → OnOk r P �
 on_ok (Ok x) f p = f p
 on_ok (Err e) f p = tt
 
+-- what follows from a property of the value holds of a result's value if it is one
 pub if_ok : {A B : Type 0} {P Q : A → Type 0} → (r : Result A B) → ((x : A) → P x → Q x) → IfOk r P → IfOk r Q
 if_ok (Ok x) f p = f x p
 if_ok (Err e) f p = tt
 
+-- the error of a result that is a given one has a property if the given one has it
 pub if_err : {A E : Type 0} → (P : E → Type 0) (r : Result A E) (y : E) → r ≡ Err y → P y → IfErr r P
 if_err P r y is p = rw is p
 
@@ -119,10 +121,12 @@ next_number x (y ∷ keys) q = go (are_equal x y) refl (next_number x keys)
         let sum : 1 + position_or_len (are_equal x) keys ≡ suc (length keys) = omega (arith, same) in
         rw e sum
 
+-- if the left of two flags is true, their disjunction is true
 or_left : (a b : Bool) → a ≡ true → a || b ≡ true
 or_left true b q = refl
 or_left false b q = cc
 
+-- if the right of two flags is true, their disjunction is true
 or_right : (a b : Bool) → b ≡ true → a || b ≡ true
 or_right true b q = refl
 or_right false b q = q
@@ -150,6 +154,7 @@ module _ (s : Script) (all : List (List Event)) (ways : List Way) (h : List Even
   stays : (n : ℕ) → n < length all → get_or (all ++ h ∷ []) n [] ≡ get_or all n []
   stays n low = get_or_append_left all (h ∷ []) [] n low
 
+  -- the history put at the end of a list is read there
   pub at_end : get_or (all ++ h ∷ []) (length all) [] ≡ h
   at_end =
       let here = get_or-append-add all (h ∷ []) 0 [] in
@@ -169,6 +174,7 @@ module _ (s : Script) (all : List (List Event)) (ways : List Way) (h : List Even
     pub gives : free_step s way.turn (get_or all way.from []) ≡ Ok event
     pub is : h ≡ event ∷ get_or all way.from []
 
+  -- ways to the states of a list stay so with one new state and its way from an earlier one
   pub ways_more : IsNewWay → AreWays s (all ++ h ∷ []) (ways ++ way ∷ [])
   ways_more new =
       let a = length-append ways (way ∷ []) in
@@ -224,6 +230,7 @@ pub record IsPut (s : Script) (watched : List Watched) (all : List (List Event))
 
 module _ (s : Script) (watched : List Watched) (all : List (List Event)) (x : Seen) (h : List Event) (key : Key) (way : Way) (fit : IsTrue (fits s))
     (are : AreStates s watched all x) (is : IsKeyOf s watched h key) where
+  -- a state that is put, with its way from an earlier one, is in the list under its number
   pub is_put : IsNewWay s all x.ways h way are.ways → IsPut s watched all h (number_in key x) (put key way x)
   is_put new = go (list_any (are_equal key) x.keys) refl
     where

@@ -52,6 +52,7 @@ step_free s limit t past l =
 pub step_cpu : (s : Script) (limit : ℕ) (t : Turn) (past : List Event) (e : Event) → step s limit t past ≡ Ok e → cpu_at t ≡ e.cpu
 step_cpu s limit t past e h = ap (λ (f : Event). f.cpu) (turn_gives s limit t past e h)
 
+-- a turn that gives an event under a limit is one of a processor of the script
 pub step_has : (s : Script) (limit : ℕ) (t : Turn) (past : List Event) (e : Event) → step s limit t past ≡ Ok e → has_cpu s (cpu_at t) ≡ true
 step_has s limit t past e h = not_false (nat_lt (cpu_at t).0 s.cpus) (step_uncut s limit t past e h).0
 
@@ -63,6 +64,7 @@ step_comes s limit t past e l h =
 
 -- ---- flags
 
+-- there are as many flags as events that are watched for
 pub came_length : (watched : List Watched) (past : List Event) (flags : List Bool) → AreCame watched past flags → length flags ≡ length watched
 came_length [] past [] a = refl
 came_length [] past (b ∷ flags) a = absurd a
@@ -82,6 +84,7 @@ module _ (s : Script) (limit : ℕ) (watched : List Watched) (t : Turn) (past : 
   made_step : (r : Result Event ScheduleKind) → step m.processors.script m.processors.limit t past ≡ r → step s limit t past ≡ r
   made_step r q = subst (λ (l : ℕ). step s l t past ≡ r) h.limit_is (subst (λ (z : Script). step z m.processors.limit t past ≡ r) h.of q)
 
+  -- a machine whose parts all move by a turn's event has taken that turn
   pub taken : (c : CpusState) (f : PlainState) (e : Event) (n : Machine) → step m.processors.script m.processors.limit t past ≡ Ok e →
       AreAfter (e ∷ past) c f.script (view_of f) → (c.script ≡ m.processors.script) × (c.limit ≡ m.processors.limit) →
       n ≡ record m { processors = c; floor = f; dpcs = n.dpcs; came = n.came; took = m.took + 1; event = e } → IsShade s (e ∷ past) n.dpcs →
@@ -106,6 +109,7 @@ module _ (s : Script) (limit : ℕ) (watched : List Watched) (t : Turn) (past : 
       one_more : (k : ℕ) → k + 1 ≡ suc k
       one_more k = omega arith
 
+  -- a machine whose processors and floor still stand after the same history has refused a turn without event
   pub refused : (c : CpusState) (f : PlainState) (k : ScheduleKind) (n : Machine) → step m.processors.script m.processors.limit t past ≡ Err k →
       AreAfter past c f.script (view_of f) → (c.script ≡ m.processors.script) × (c.limit ≡ m.processors.limit) →
       n ≡ record m { processors = c; floor = f } → IsRefused s limit watched t past n
@@ -136,6 +140,7 @@ module _ (s : Script) (limit : ℕ) (watched : List Watched) (t : Turn) (past : 
       ap (λ (d : Option ℕ). in_rewait (λ f y. d) None e.what) here
       ∙ ap (λ (p : CpuNo). again_due (stand_at s p past) e.what) cpu
 
+  -- an event given by a turn of a machine is one of a processor of the script
   pub event_has : (e : Event) → step m.processors.script m.processors.limit t past ≡ Ok e → has_cpu s e.cpu ≡ true
   event_has e made =
       let gives = made_step (Ok e) made in
@@ -161,6 +166,7 @@ cpu_own s limit watched past m h p d has =
     ∙ ap (λ (x : CpuState). x.own) (get_or-table m.processors.script.cpus p.0 (λ q. state_of m.processors.script (cpu q) m.processors.limit past) d within)
     ∙ ap (λ (z : Script). own_of z p past) h.of
 
+-- a machine has a state for each processor of the script
 pub cpu_within : (s : Script) (limit : ℕ) (watched : List Watched) (past : List Event) (m : Machine) → Stands s limit watched past m → (p : CpuNo) →
     has_cpu s p ≡ true → p.0 < length m.processors.cpus
 cpu_within s limit watched past m h p has =

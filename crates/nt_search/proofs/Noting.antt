@@ -11,6 +11,7 @@ use Rattle.nt_search.specs.declared.failures.Failure.{Failure}
 use Rattle.nt_search.specs.Failures.{AreJudged, AreNoted, EachUnnoted, IsFailure, IsJudgedOne, IsNoted}
 use Rattle.nt_search.specs.Searches.{WereUnnoted}
 
+-- a failure that is noted is not none
 unlike : {g : Failure} → ◌≡◌ {A = Option Failure} (Some g) None → ⊥
 unlike q = cc
 
@@ -21,9 +22,11 @@ module _ (P : Expectation → Type 0) (f : Failure) (xs : List Expectation) (old
   one_silent y None None j q = (refl, j)
   one_silent y None (Some g) j q = absurd (unlike q)
 
+  -- what is judged of an expectation with no failure noted after it does not hold
   pub silent : EachUnnoted (λ y. P y → ⊥) xs new
   silent j d low q = (one_silent (get_or xs j d) (get_or old j None) (get_or new j None) (judged.each j d low) q).1
 
+  -- a failure that is not noted after the judging was not noted before it
   pub unnoted : length old ≡ length xs → WereUnnoted old new
   unnoted count j q = go (nat_lt j (length xs)) refl
     where

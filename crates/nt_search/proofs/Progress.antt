@@ -20,6 +20,7 @@ use Rattle.nt_search.specs.Searches.{IsExpanded, IsSearched, IsSearchedTo, IsSta
 use Rattle.nt_search.specs.Tried.{IsLed, IsTried, Keeps}
 use Rattle.nt_search.proofs.TryingMore.{led_more, like_more}
 
+-- a search at its start has expanded no state
 pub begun : (x : Plan) (f : Found) → IsStart x f → IsSearchedTo x f 0
 begun x f start = record {
   all = [] ∷ [];
@@ -65,6 +66,7 @@ one_more P closed targets all more n count inside each last k low = go (nat_lt k
         (subst (λ (ts : List ℕ). P ts (get_or (all ++ more) n [])) (sym here)
         (subst (P targets) (sym (get_or_append_left all more [] n inside)) last))
 
+-- a search that has expanded the first states and then the next one has expanded one more
 pub gone_on : (x : Plan) (old new : Found) (n : ℕ) (h : IsSearchedTo x old n) → n < length h.all → IsExpanded x h.all (get_or h.all n []) old new →
     IsSearchedTo x new (n + 1)
 gone_on x old new n h low e = record {

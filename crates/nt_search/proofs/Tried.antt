@@ -75,6 +75,7 @@ pub each_among : (more watched : List Watched) → ((y : Watched) → Among (λ 
 each_among more [] into = tt
 each_among more (x ∷ watched) into = (into x (inl refl), each_among more watched (λ y a. into y (inr a)))
 
+-- an expectation that a history keeps is shown by no event that may come after it
 pub kept : (s : Script) (x : Expectation) (past : List Event) → Keeps s x past → (f : Event) → MayCome s f past → ShowsAt s x f past → ⊥
 kept s x past keeps f may shows = one (has_turn s past keeps.turns f keeps.whole may)
   where

@@ -36,9 +36,11 @@ only : {S : Type 0} (t u : S) → Contains (t ∷ []) u → u ≡ t
 only t u (zero, low, is) = sym is
 only t u (suc k, low, is) = absurd (omega (arith, low))
 
+-- two events that the same result gives are the same
 given : {e f : Event} → ◌≡◌ {A = Result Event ScheduleKind} (Ok e) (Ok f) → e ≡ f
 given q = cc
 
+-- a result that is an event is no refusal
 differ : {e : Event} {k : ScheduleKind} → ◌≡◌ {A = Result Event ScheduleKind} (Ok e) (Err k) → ⊥
 differ q = cc
 

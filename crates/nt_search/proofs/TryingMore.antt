@@ -176,6 +176,7 @@ starved_by x all f states noted = record {
   cause = tt;
 }
 
+-- what a search found so far is a sound result of one that stopped out of memory
 pub starved : (x : Plan) (all : List (List Event)) (f : Found) → AreFound x all f → IsStopped x all NoMemory f
 starved x all f h = starved_by x all f h.states h.noted
 

@@ -49,6 +49,7 @@ free_at s watched (h ∷ all) [] a n low = absurd a
 free_at s watched (h ∷ all) (k ∷ keys) a zero low = a.0.free
 free_at s watched (h ∷ all) (k ∷ keys) a (suc n) low = free_at s watched all keys a.1 n (omega (arith, low))
 
+-- a free run has short looks only
 short : (s : Script) (h : List Event) → IsFreeRun s h → LooksAreShort h
 short s [] r = tt
 short s (e ∷ h) r = (r.0.1, short s h r.1)
@@ -82,6 +83,7 @@ shown_at s x past run (inr m) = (
   refl,
 )
 
+-- what a run's newest turn, or its quiet end, shows against an expectation is a failure at its length
 shows_fail : (s : Script) (x : Expectation) (past : List Event) (o : Option Turn) → IsFreeRun s past → ShowsBy s x past o → FailsAt s x (length past)
 shows_fail s x past (Some turn) run by =
     let m : Shows s x past = inl (by.0, by.2, by.3) in
@@ -150,10 +152,12 @@ module _ (x : Plan) (f : Found) where
     pub states : AreStates x.script.now x.watched.items all f.states
     pub noted : AreNoted x.script.now all x.expectations.now f.failures.items
 
+  -- however a search ended, its states are those of some histories and its failures show in them
   pub known : (r : Expanded) → OnOk r (IsSearched x f) → IfErr r (λ stop. IsStopped x [] stop f) → IsKnown
   known (Ok done) searched stopped = record { all = searched.all; states = searched.found.states; noted = searched.found.noted }
   known (Err stop) searched stopped = record { all = stopped.more; states = stopped.states; noted = stopped.noted }
 
+  -- an expectation with a noted failure fails in the script, at the event of that number
   pub fails_known : IsKnown → (j : ℕ) (d : Expectation) (g : Failure) → j < length x.expectations.now → get_or f.failures.items j None ≡ Some g →
       FailsAt x.script.now (get_or x.expectations.now j d) g.at
   fails_known k = fails x k.all f k.states k.noted
@@ -164,6 +168,7 @@ module _ (x : Plan) (f : Found) where
   none_stop : (a : Stop) → ◌≡◌ {A = Option Stop} None (Some a) → ⊥
   none_stop a q = cc
 
+  -- the ways, failures, round and cause of stopping that a search gives its caller are right
   pub shown : (r : Expanded) (end : End) → OnOk r (IsSearched x f) → IfErr r (λ stop. IsStopped x [] stop f) → IsEndOf r f.graph end →
       IsShownIn x.script.now x.expectations.now x.limit x.most (record { found = f; end = end })
   shown (Ok done) (Whole depths) searched stopped is = record {
@@ -193,11 +198,13 @@ module _ (x : Plan) (f : Found) where
     cause = λ stop q. subst (HasCause x.limit x.most stopped.more) (sym is ∙ given_stop early stop q) stopped.cause;
   }
 
+  -- a search that ended whole has expanded all its states
   pub whole : (r : Expanded) (end : End) → OnOk r (IsSearched x f) → IsEndOf r f.graph end → is_whole end ≡ true → IsSearched x f
   whole (Ok done) end searched is q = searched
   whole (Err why) (Whole depths) searched is q = absurd is
   whole (Err why) (Stopped early) searched is q = cc
 
+  -- no run is longer than the first depth a whole search gives; if it gives a round, runs of every length exist
   pub tells : (r : Expanded) (end : End) → OnOk r (IsSearched x f) → IsEndOf r f.graph end → TellsOfEnds x.script.now end
   tells (Ok done) (Whole (Finite depths)) searched is = no_longer x f searched depths.items is
   tells (Ok done) (Whole (Round round)) searched is = endless x f searched round.items is
@@ -205,6 +212,7 @@ module _ (x : Plan) (f : Found) where
   tells (Err why) (Whole depths) searched is = absurd is
   tells (Err why) (Stopped early) searched is = tt
 
+  -- each state that a search at its end leads to is one that it expanded
   pub all_inside : (r : Expanded) → OnOk r (IsSearched x f) → OnOk r (IsInside f.graph.closed)
   all_inside (Ok done) searched = inside x f searched
   all_inside (Err why) searched = tt

@@ -40,6 +40,7 @@ lists_say {A} {B} {f} {said} say (x ∷ xs) (y ∷ ys) h =
     let rest = lists_say say xs ys t.1 in
     λ i. first i ∷ rest i
 
+-- lists that a test finds equal element by element say the same when turned round too
 pub turned_lists_say : {A B : Type 0} {f : A → A → Bool} {said : A → B} → Says f said → Says (pointwise f) (λ xs. map said (reverse xs))
 turned_lists_say {A} {B} {f} {said} say xs ys h =
     map_reversed said xs ∙ ap reverse (lists_say say xs ys h) ∙ sym (map_reversed said ys)

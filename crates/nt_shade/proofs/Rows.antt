@@ -31,6 +31,7 @@ pub record IsReadOf (cpus : List CpuState) (f : PlainState) (row : ClassAsks) : 
   pub class : row.class < 16
   pub read : (d : CpuState) → IsRead (get_or cpus row.cpu.0 d).own f row.cpu row.class row
 
+-- a row read of the processor at a place of the list, for one of the 16 classes, is a row of that list
 pub is_read_of : (cpus : List CpuState) (f : PlainState) (n k : ℕ) (row : ClassAsks) (item : CpuState) → n < length cpus → k < 16 →
     item ≡ get_or cpus n item → IsRead item.own f (cpu n) k row → IsReadOf cpus f row
 is_read_of cpus f n k row item low class is read = record {
@@ -48,6 +49,7 @@ pub record AreRows (cpus : List CpuState) (f : PlainState) (n : ℕ) (rows : Lis
   pub places : map place_of rows ≡ table n (λ place. place)
   pub read : All (IsReadOf cpus f) rows
 
+-- an empty list has the first zero rows of the processors
 pub no_rows : (cpus : List CpuState) (f : PlainState) (rows : List ClassAsks) → rows ≡ [] → AreRows cpus f 0 rows
 no_rows cpus f rows e = rw e (record { places = sym (table_none (λ k. k)); read = All-nil (IsReadOf cpus f) })
 
@@ -76,6 +78,7 @@ module _ (past : List Event) (c : CpusState) (f : PlainState) (after : AreAfter 
       ap (λ (xs : List CpuState). (get_or xs p d).own) after.every
       ∙ ap (λ (x : CpuState). x.own) (get_or-table c.script.cpus p (λ q. state_of c.script (cpu q) c.limit past) d within)
 
+  -- each processor has a count of what it has seen for each of the 16 classes
   pub seen_count : (p : ℕ) (d : CpuState) → p < length c.cpus → length (get_or c.cpus p d).own.seen ≡ 16
   seen_count p d low = rw (kept_by p d low) (length-table_from 0 16 _)
 
@@ -90,12 +93,14 @@ module _ (past : List Event) (c : CpusState) (f : PlainState) (after : AreAfter 
       let d : CpuState = state_of c.script row.cpu c.limit past in
       subst (λ x. IsRead x f row.cpu row.class row) (kept_by row.cpu.0 d r.cpu) (r.read d)
 
+  -- rows that were read of the processors hold what the history says was asked
   pub rows_asked : (rows : List ClassAsks) → All (IsReadOf c.cpus f) rows → All (IsClassAsked c.script past) rows
   rows_asked rows all k d l =
       let row = get_or rows k d in
       let r = all k d l in
       row_asked c.script past f after.follows after.same row.cpu row.class (has_word row.cpu row.class r.cpu r.class) row r.class (row_is row r)
 
+  -- the rows of all 16 classes of all processors, in order, are those the script needs, with room for each lane
   pub rows_of : (x : Unnoticed) → AreRows c.cpus f (length c.cpus * 16) x.classes.items → IsOf c.script x
   rows_of x are = record {
     lanes = few_lanes c.script after.script;
@@ -110,6 +115,7 @@ module _ (past : List Event) (c : CpusState) (f : PlainState) (after : AreAfter 
 few_cpus : (s : Script) → IsTrue (fits s) → s.cpus ≤ 64
 few_cpus s h = grind (arith, common_steps)
 
+-- a number below the number of processors is below 256
 pub number_fits : (past : List Event) (c : CpusState) (f : PlainState) (n : ℕ) → AreAfter past c f.script (view_of f) → n < length c.cpus → n < 256
 number_fits past c f n after low =
     let count = cpu_count past c f after in

@@ -40,6 +40,7 @@ due_told s p c past l =
     let b : value_at (own_of s p past).served c ≡ served s p c past = get_or-table 16 c (λ k. served s p k past) 0 l in
     ap (λ (n : ℕ). nat_lt n (seen s p c past)) (sym b) ∙ ap (nat_lt (value_at (own_of s p past).served c)) (sym a)
 
+-- the counts of a class that is kept as the history has it are the counts of the history
 pub tells_counts : (s : Script) (past : List Event) (x : ClassAsks) → x.class < 16 → IsClassAsked s past x → TellsCounts s past x
 tells_counts s past x l k =
     let old = seen s x.cpu x.class past in
@@ -52,9 +53,11 @@ tells_counts s past x l k =
           ∙ count_above s x.cpu x.class old (told_by s lane x.cpu x.class past) past;
     }
 
+-- of every class that is kept, of each processor, the counts are the history's
 pub all_tell : (s : Script) (past : List Event) (x : Unnoticed) → IsOf s x → IsAsked s past x → All (TellsCounts s past) x.classes.items
 all_tell s past x of asked = λ k d l. tells_counts s past (get_or x.classes.items k d) (of.room k d l).class (asked k d l)
 
+-- after fewer than 2^32 events no class has 2^32 or more asks ahead of what its processor has seen
 pub all_few : (s : Script) (past : List Event) (x : Unnoticed) → IsAsked s past x → length past < 2 ^ 32 → AreFew x
 all_few s past x asked h = λ k d l.
     let row = get_or x.classes.items k d in
@@ -103,6 +106,7 @@ AreAllTwo s h k [] (y ∷ ys) = ⊥
 AreAllTwo s h k (x ∷ xs) [] = ⊥
 AreAllTwo s h k (x ∷ xs) (y ∷ ys) = AreTwo s h k x y × AreAllTwo s h k xs ys
 
+-- two lists of classes with the same counts, each of its history, are alike place by place
 all_two : (s : Script) (h k : List Event) (xs ys : List ClassAsks) → length xs ≡ length ys → All (HasRoom s) xs → All (HasRoom s) ys →
     All (IsClassAsked s h) xs → All (IsClassAsked s k) ys → flat_map class_counts xs ≡ flat_map class_counts ys → AreAllTwo s h k xs ys
 all_two s h k [] [] l r q a b e = tt
@@ -127,6 +131,7 @@ all_two s h k (x ∷ xs) (y ∷ ys) l r q a b e =
 abbrev Two : Script → List Event → List Event → ℕ → Type 0
 Two s h k i = (x : ClassAsks) × (y : ClassAsks) × (place_of x ≡ i) × (place_of y ≡ i) × AreTwo s h k x y
 
+-- at each place of two lists of classes with the same places, alike place by place, both classes are alike
 two_at : (s : Script) (h k : List Event) (from n i : ℕ) (xs ys : List ClassAsks) → map place_of xs ≡ table_from from n (λ place. place) →
     map place_of ys ≡ table_from from n (λ place. place) → AreAllTwo s h k xs ys → from ≤ i → i < from + n → Two s h k i
 unfolding table_from

@@ -31,15 +31,18 @@ use Rattle.nt_shade_dpcs.proofs.Changing.{object_follows, queue_follows, same_ch
 
 -- ---- objects
 
+-- an event leaves of a DPC object without numbers what its change leaves of it
 object_step : (d : DpcNo) (n : ℕ) (by : CpuNo) (w : What) (o : ObjectState) →
     bare_object (object_after d n by w o) ≡ object_changed d by (change_of w) (bare_object o)
 object_step d n by w o =
     object_bare d n by w o ∙ object_follows d by (bare_what w) (bare_object o)
     ∙ ap (λ (c : Change). object_changed d by c (bare_object o)) (same_change w)
 
+-- after each history there are as many objects without numbers as the script has DPC objects
 pub objects_count : (s : Script) (past : List Event) → length (map bare_object (objects_at s past)) ≡ length s.dpcs
 objects_count s past = length-map (objects_at s past) bare_object ∙ length-table_from 0 (length s.dpcs) (λ d. object_of (dpc d) past)
 
+-- the objects without numbers after one more event are those before it, changed as the event changes them
 pub objects_follow : (s : Script) (e : Event) (past : List Event) → map bare_object (objects_at s (e ∷ past))
     ≡ objects_changed e.cpu (change_of e.what) (map bare_object (objects_at s past))
 objects_follow s e past =
@@ -55,15 +58,18 @@ objects_follow s e past =
 
 -- ---- queues
 
+-- an event leaves of a DPC queue without numbers what its change leaves of it
 queue_step : (s : Script) (p : CpuNo) (n : ℕ) (by : CpuNo) (w : What) (objects : List ObjectState) (q : QueueState) →
     bare_queue (queue_after s p n by w objects q) ≡ queue_changed s (map bare_object objects) p by (change_of w) (bare_queue q)
 queue_step s p n by w objects q =
     queue_bare s p n by w objects q ∙ queue_follows s (map bare_object objects) p by (bare_what w) (bare_queue q)
     ∙ ap (λ (c : Change). queue_changed s (map bare_object objects) p by c (bare_queue q)) (same_change w)
 
+-- after each history there are as many queues without numbers as the script has processors
 pub queues_count : (s : Script) (past : List Event) → length (map bare_queue (lanes_at s past).queues) ≡ s.cpus
 queues_count s past = length-map (lanes_at s past).queues bare_queue ∙ length-table_from 0 s.cpus (λ p. queue_of s (cpu p) past)
 
+-- the queues without numbers after one more event are those before it, changed as the event changes them
 pub queues_follow : (s : Script) (e : Event) (past : List Event) → map bare_queue (lanes_at s (e ∷ past)).queues
     ≡ queues_changed s (map bare_object (objects_at s past)) e.cpu (change_of e.what) (map bare_queue (lanes_at s past).queues)
 queues_follow s e past =
@@ -80,16 +86,20 @@ queues_follow s e past =
 
 -- ---- where nothing has happened yet, and how many there are
 
+-- before any event each DPC object of the script is as it starts
 pub objects_start : (s : Script) → map bare_object (objects_at s []) ≡ table (length s.dpcs) (λ d. start_object)
 objects_start s = map_table bare_object (length s.dpcs) (λ d. start_object)
 
+-- before any event each processor's DPC queue is as it starts
 pub queues_start : (s : Script) → map bare_queue (lanes_at s []).queues ≡ table s.cpus (λ p. start_queue)
 queues_start s = map_table bare_queue s.cpus (λ p. start_queue)
 
 module _ (s : Script) (past : List Event) (x : ShadeDpcs) (is : IsShade s past x) where
+  -- a shade has as many objects as the script has DPC objects
   pub objects_size : length x.objects.items ≡ length s.dpcs
   objects_size = sym (length-map x.objects.items object_said) ∙ ap length is.objects ∙ objects_count s past
 
+  -- a shade has as many DPC queues as the script has processors
   pub queues_size : length x.queues.items ≡ s.cpus
   queues_size = sym (length-map x.queues.items queue_said) ∙ ap length is.queues ∙ queues_count s past
 
@@ -97,5 +107,6 @@ module _ (s : Script) (past : List Event) (x : ShadeDpcs) (is : IsShade s past x
 pub few_objects : (s : Script) → IsTrue (fits s) → length s.dpcs ≤ 256
 few_objects s h = grind (arith, common_steps)
 
+-- a script that fits has at most 64 processors, so at most as many queues
 pub few_queues : (s : Script) → IsTrue (fits s) → s.cpus ≤ 64
 few_queues s h = grind (arith, common_steps)

@@ -35,10 +35,12 @@ event_of p r k w = record { cpu = p; thread = r; level = k; what = w }
 
 -- ---- the thread that makes an event
 
+-- whether the thread that makes an event is a given one
 set_by : Option ThreadNo → ThreadNo → Bool
 set_by None u = false
 set_by (Some t) u = t.0 == u.0
 
+-- whether an event is a thread's is whether the event's maker is that thread
 made : (s : Script) (e : Event) (r : Option ThreadNo) (u : ThreadNo) → e.thread ≡ r → is_of_thread s u e ≡ set_by (maker_in s e r) u
 unfolding set_by
 made s e None u h = rw h (and_right (is_of e (cpu_of s u)) false refl)
@@ -214,6 +216,7 @@ module _ (s : Script) (st : Stand) (p : CpuNo) (r : Option ThreadNo) (k n : ℕ)
   by_what (Call f c y) = nothing (Call f c y) (λ t old. refl) (λ t old. no_delay (Call f c y) t old)
   by_what w = nothing w (λ t old. refl) (λ t old. no_delay w t old)
 
+-- the keys that an event leaves in a shade are the set keys of the timers that the event leaves
 pub keys_follow : (s : Script) (st : Stand) (e : Event) (n : ℕ) (x : Timers) (keys : List ShadeKey) → AreSetKeys s n x keys →
     AreSetKeys s (suc n) (timers_after s n st e x) (keys_after x.now (maker_of s e) (again_due st e.what) e.what keys)
 keys_follow s st e n x keys are = by_what s st e.cpu e.thread e.level n x keys are e.what

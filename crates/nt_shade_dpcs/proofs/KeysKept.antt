@@ -13,6 +13,7 @@ use Rattle.nt_shade_dpcs.specs.Timers.{AreSetKeys, setting_among, shade_key}
 use Rattle.nt_shade_dpcs.proofs.KeyLists.{each_as, in_each, in_found, in_order, in_others, out_each, out_gone, out_order, out_others, put_in, same_is}
 use Rattle.nt_shade_dpcs.proofs.KeyLists.{shade_in, shade_out, taken_out}
 
+-- set keys with numbers below a bound have numbers below the next bound
 later : (n : ℕ) (xs : List SetKey) → Each (λ y. y.setting.number < n) xs → Each (λ y. y.setting.number < suc n) xs
 later n xs h = each_as (λ (y : SetKey) (k : y.setting.number < n). omega (arith, k)) xs h
 

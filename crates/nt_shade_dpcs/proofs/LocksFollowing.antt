@@ -24,10 +24,12 @@ use Rattle.nt_shade_dpcs.proofs.Followed.{IsFollowedTo, read_said}
 
 -- ---- flags
 
+-- of two locks with a flag for each processor, the one chosen has one for each
 either : (b : Bool) (x y : LockState) (n : ℕ) → length x.spinners ≡ n → length y.spinners ≡ n → length (cond b x y).spinners ≡ n
 either true x y n h k = h
 either false x y n h k = k
 
+-- a move of a lock leaves it with a flag for each processor
 flags_after : (s : Script) (k : LockNo) (p : CpuNo) (m : LockMove) (x : LockState) → length x.spinners ≡ s.cpus →
     length (lock_moved s k p m x).spinners ≡ s.cpus
 flags_after s k p (Gets j) x h = either (j.0 == k.0) _ x s.cpus (length-table_from 0 s.cpus _) h
@@ -35,19 +37,23 @@ flags_after s k p (Spins j) x h = either (j.0 == k.0) _ x s.cpus (length-table_f
 flags_after s k p (Frees j) x h = either (j.0 == k.0) _ x s.cpus h h
 flags_after s k p NoMove x h = h
 
+-- in a history each lock has a flag for each processor
 flags_of : (s : Script) (k : LockNo) (past : List Event) → length (lock_of s k past).spinners ≡ s.cpus
 flags_of s k [] = length-table_from 0 s.cpus _
 flags_of s k (e ∷ past) = flags_after s k e.cpu (lock_move e.what) (lock_of s k past) (flags_of s k past)
 
+-- what a function's values all have holds of each element of its table
 each_table : {A : Type 0} (P : A → Type 0) (k n : ℕ) (f : ℕ → A) → ((i : ℕ) → P (f i)) → Each P (table_from k n f)
 unfolding table_from
 each_table P k zero f h = tt
 each_table P k (suc n) f h = (h k, each_table P (suc k) n f h)
 
+-- after each history every spin lock has a spinner flag for each processor
 pub locks_have_flags : (s : Script) (past : List Event) → HaveFlags s (lanes_at s past).locks
 locks_have_flags s past =
     each_table (λ (x : LockState). length x.spinners ≡ s.cpus) 0 s.locks (λ k. lock_of s (lock k) past) (λ k. flags_of s (lock k) past)
 
+-- what holds of all elements of a list holds of the one at a place of it
 each_at : {A : Type 0} (P : A → Type 0) (xs : List A) (i : ℕ) (d : A) → Each P xs → i < length xs → P (get_or xs i d)
 each_at P [] i d h l = absurd (omega arith)
 each_at P (x ∷ xs) zero d h l = h.0
@@ -65,17 +71,21 @@ flags_here s step i n old new was so flags place low read =
 
 -- ---- all locks
 
+-- after each history there are as many spin locks as the script declares
 pub locks_count : (s : Script) (past : List Event) → length (lanes_at s past).locks ≡ s.locks
 locks_count s past = length-table_from 0 s.locks (λ k. lock_of s (lock k) past)
 
+-- the spin locks after one more event are those before it, moved as the event moves them
 pub locks_follow : (s : Script) (e : Event) (past : List Event) → (lanes_at s (e ∷ past)).locks
     ≡ locks_moved s e.cpu (lock_move e.what) (lanes_at s past).locks
 locks_follow s e past =
     lock_moves s e past
     ∙ ap (λ (n : ℕ). table n (λ k. lock_moved s (lock k) e.cpu (lock_move e.what) (get_or (lanes_at s past).locks k start_lock))) (sym (locks_count s past))
 
+-- a shade has as many spin locks as the script declares
 pub locks_size : (s : Script) (past : List Event) (x : ShadeDpcs) → IsShade s past x → length x.locks.items ≡ s.locks
 locks_size s past x is = sym (length-map x.locks.items lock_said) ∙ ap length is.locks ∙ locks_count s past
 
+-- a script that fits declares at most 64 spin locks
 pub few_locks : (s : Script) → IsTrue (fits s) → s.locks ≤ 64
 few_locks s h = grind (arith, common_steps)

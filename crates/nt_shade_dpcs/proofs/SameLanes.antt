@@ -27,14 +27,17 @@ use Rattle.nt_shade_dpcs.proofs.KeyLists.{shade_found}
 
 -- ---- what a list of keys has of one key, without the number
 
+-- the setting of a key of a shade, without its number
 bare_of : ShadeKey → Setting
 bare_of x = record { due = x.due; number = 0; period = x.period }
 
+-- what is found of a key without the number is the same in the list of set keys and in the shade
 bare_found : (o : Option SetKey) → option_map bare_setting (option_map (λ (z : SetKey). z.setting) o) ≡ option_map bare_of (option_map shade_key o)
 unfolding bare_of
 bare_found None = refl
 bare_found (Some z) = refl
 
+-- the setting of a timer key without the number is what the shade has of that key
 bare_among : (k : TimerKey) (xs : List SetKey) →
     option_map bare_setting (setting_among k xs) ≡ option_map bare_of (find (λ (z : ShadeKey). same_key k z.key) (map shade_key xs))
 bare_among k xs = bare_found (find (λ (z : SetKey). same_key k z.key) xs) ∙ ap (option_map bare_of) (sym (shade_found k xs))
@@ -51,6 +54,7 @@ stands_before a b (x ∷ xs) =
 IsLater : Setting → Setting → Type 0
 IsLater x z = (nat_lt x.due z.due || ((x.due == z.due) && nat_lt x.number z.number)) ≡ true
 
+-- a key after a given one in a list in order has a later setting
 found_later : (x : SetKey) (b : TimerKey) (xs : List SetKey) (j : Setting) → Each (λ y. is_earlier x y ≡ true) xs → setting_among b xs ≡ Some j →
     IsLater x.setting j
 unfolding IsLater
@@ -64,10 +68,12 @@ found_later x b (y ∷ ys) j h e = go (same_key b y.key) (found_later x b ys j h
         ap (λ (z : Setting). nat_lt x.setting.due z.due || ((x.setting.due == z.due) && nat_lt x.setting.number z.number)) (sym q) ∙ h.0
     go false rest e = rest e
 
+-- of two keys due at the same time the later one has the greater number
 numbers_rise : (x z : Setting) → IsLater x z → x.due ≡ z.due → nat_lt x.number z.number ≡ true
 unfolding IsLater
 numbers_rise x z h e = rw (e, le-ltb z.due z.due (omega arith), eq-eqb z.due z.due refl) at h
 
+-- of two keys due at the same time the numbers are in the order in which they stand in the shade
 number_order : (a b : TimerKey) (xs : List SetKey) (i j : Setting) → AreInOrder xs → setting_among a xs ≡ Some i → setting_among b xs ≡ Some j →
     i.due ≡ j.due → nat_lt i.number j.number ≡ stands_before a b (map shade_key xs)
 unfolding stands_before
@@ -153,6 +159,7 @@ module _ (s : Script) (h k : List Event) (keys : List ShadeKey) (a : AreSetKeys 
       there : i.due ≡ j.due → m.due ≡ n.due
       there e = sym (same_due t i m ft ti tm) ∙ e ∙ same_due u j n fu uj un
 
+-- where two shades say the same, their histories have the same in these lanes but for numbers
 pub same_lanes : (s : Script) (h k : List Event) (x y : ShadeDpcs) → IsShade s h x → IsShade s k y → SayTheSame x y → HaveTheSame s h k
 same_lanes s h k x y is are same =
     let b = subst (λ (keys : List ShadeKey). AreSetKeys s (length k) (timers_at s k) keys) (sym same.keys) are.timers.keys in

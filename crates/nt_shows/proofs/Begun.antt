@@ -21,11 +21,13 @@ took_came t (e ∷ h) m = go (list_any (takes_thread t) h) refl (took_came t h) 
     go true q earlier m = inr (earlier q)
     go false q earlier m = inl (sym (or_only (takes_thread t e) (list_any (takes_thread t) h) q) ∙ m, q)
 
+-- if some event of a history switched to a thread, the thread's beginning came in it
 came_took : (t : ThreadNo) (h : List Event) → Came (Begin (act.Thread t)) h → list_any (takes_thread t) h ≡ true
 came_took t [] m = absurd m
 came_took t (e ∷ h) (inl m) = let q = m.0 in rw q refl
 came_took t (e ∷ h) (inr m) = or_yes (takes_thread t e) (list_any (takes_thread t) h) (came_took t h m)
 
+-- false is not true
 clash : false ≡ true → ⊥
 clash e = cc
 

@@ -26,20 +26,24 @@ use Rattle.nt_shows.proofs.Telling.{tells_equal}
 use Rattle.nt_shows.proofs.Together.{any_found}
 
 module _ (s : Script) (l : Lanes) (past : List Event) (is : l ≡ lanes_at s past) where
+  -- the object's state tells whether a declared DPC still waits in a queue after the history
   pub dpc_tells : (d : DpcNo) (b : Bool) → has_dpc s d ≡ true → b ≡ is_queued (object_at l d) → Tells b (dpc_waits d past ≡ true)
   dpc_tells d b low e =
       tells_equal b (dpc_waits d past)
       (e ∙ ap (λ (x : Lanes). is_queued (object_at x d)) is
       ∙ ap is_queued (get_or-table (length s.dpcs) d.0 (λ n. object_of (dpc n) past) start_object (ltb-true d.0 (length s.dpcs) low)))
 
+  -- the APC queues of its thread tell whether an APC is still inserted after the history
   pub apc_tells : (a : ApcNo) (b : Bool) → b ≡ is_inserted a (facts_at l (owner_of s a)).apcs → Tells b (apc_waits s a past ≡ true)
   apc_tells a b e =
       tells_equal b (apc_waits s a past) (e ∙ ap (λ (x : Lanes). is_inserted a (facts_at x (owner_of s a)).apcs) is)
 
+  -- what a thread is waiting for, if anything, tells whether it is blocked after the history
   pub blocked_tells : (t : ThreadNo) (b : Bool) → b ≡ is_some (waiting (facts_at l t)) → Tells b (is_blocked s t past ≡ true)
   blocked_tells t b e =
       tells_equal b (is_blocked s t past) (e ∙ ap (λ (x : Lanes). is_some (waiting (facts_at x t))) is)
 
+  -- the spinner flags of a declared spin lock tell whether a processor spins on it after the history
   pub spins_tell : (k : LockNo) (b : Bool) → has_lock s k ≡ true → b ≡ list_any (λ f. f) (lock_at l k).spinners → Tells b (SpinsOn s k past)
   spins_tell k b low e =
       go b (e ∙ ap (λ (x : Lanes). list_any (λ f. f) (lock_at x k).spinners) is

@@ -4,9 +4,11 @@ use Rattle.std.specs.Prelude.{Bool, false, true, ◌≡◌}
 use Rattle.nt_history.proofs.Same.{Same}
 use Rattle.nt_shows.specs.Tells.{Tells}
 
+-- that false is true is absurd
 clash : false ≡ true → ⊥
 clash e = cc
 
+-- a test that answers the same as another one tells whether that one is true
 pub tells_equal : (a b : Bool) → a ≡ b → Tells a (b ≡ true)
 tells_equal true b e = sym e
 tells_equal false b e = λ h. clash (e ∙ h)

@@ -24,13 +24,16 @@ use Rattle.nt_shows.specs.Tells.{Tells}
 
 -- ---- numbers and tests
 
+-- a true flag makes its disjunction with any other true
 or_here : (a b : Bool) → a ≡ true → (a || b) ≡ true
 or_here true b h = refl
 or_here false b h = absurd cc
 
+-- true is not false
 no : true ≡ false → ⊥
 no h = cc
 
+-- numbers that are not the same are unequal by the test
 differ : (i j : ℕ) → (i ≡ j → ⊥) → (i == j) ≡ false
 differ i j n = go (i == j) refl
   where
@@ -38,6 +41,7 @@ differ i j n = go (i == j) refl
     go true e = absurd (n (eqb-true i j e))
     go false e = refl
 
+-- numbers that are unequal by the test are not the same
 differing : (i j : ℕ) → (i == j) ≡ false → i ≡ j → ⊥
 differing i j n e = no (sym (eq-eqb i j e) ∙ n)
 
@@ -66,6 +70,7 @@ record Places (x y : Activity) (cs : List CpuState) (d : CpuState) : Type 0 wher
   here : stands_at x (get_or cs i d) ≡ true
   there : stands_at y (get_or cs j d) ≡ true
 
+-- if one activity stands on the first processor and the other on a later one, both have their places
 first_place : (x y : Activity) (c : CpuState) (cs : List CpuState) (d : CpuState) → stand_apart x y c cs ≡ true → Places x y (c ∷ cs) d
 first_place x y c cs d h =
     let t = both (stands_at x c) (list_any (stands_at y) cs) h in
@@ -73,10 +78,12 @@ first_place x y c cs d h =
     let low = r.1 in
     record { i = 0; j = suc r.0; low_i = omega arith; low_j = omega (arith, low); apart = λ e. omega (arith, e); here = t.0; there = r.2 }
 
+-- places of two activities in one order are places of them in the other order
 turned : (x y : Activity) (cs : List CpuState) (d : CpuState) → Places y x cs d → Places x y cs d
 turned x y cs d r =
     record { i = r.j; j = r.i; low_i = r.low_j; low_j = r.low_i; apart = λ e. r.apart (sym e); here = r.there; there = r.here }
 
+-- places of two activities on the later processors are places of them on all
 later_place : (x y : Activity) (c : CpuState) (cs : List CpuState) (d : CpuState) → Places x y cs d → Places x y (c ∷ cs) d
 later_place x y c cs d r =
     let low_i = r.low_i in
@@ -91,6 +98,7 @@ later_place x y c cs d r =
       there = r.there;
     }
 
+-- if a search finds two activities together, both have places on two different processors
 found : (x y : Activity) (cs : List CpuState) (d : CpuState) → stand_together x y cs ≡ true → Places x y cs d
 found x y [] d h = cc
 found x y (c ∷ cs) d h = go (stand_apart x y c cs) (stand_apart y x c cs) refl refl (found x y cs d) h
@@ -101,6 +109,7 @@ found x y (c ∷ cs) d h = go (stand_apart x y c cs) (stand_apart y x c cs) refl
     go false true e f rest k = turned x y (c ∷ cs) d (first_place y x c cs d f)
     go false false e f rest k = later_place x y c cs d (rest k)
 
+-- if one activity stands on the first processor and the other on a later one, the search finds it
 first_apart : (x y : Activity) (c : CpuState) (cs : List CpuState) (d : CpuState) (j : ℕ) → j < length cs → stands_at x c ≡ true →
     stands_at y (get_or cs j d) ≡ true → stand_apart x y c cs ≡ true
 first_apart x y c cs d j low here there = both_yes (stands_at x c) (list_any (stands_at y) cs) here (list_any_at (stands_at y) cs j d low there)
@@ -131,11 +140,13 @@ not_of : (s : Script) (limit : ℕ) (e : Event) (past : List Event) (p : CpuNo) 
 not_of s limit e past p run high =
     let low = cpu_below s limit e past run.0 in differ e.cpu.0 p.0 (λ k. omega (arith, low, high, k))
 
+-- in a run a processor beyond those of the script has no frames of its own
 own_none : (s : Script) (limit : ℕ) (past : List Event) (p : CpuNo) → IsRun s limit past → s.cpus ≤ p.0 → own_frames p past ≡ []
 own_none s limit [] p run high = refl
 own_none s limit (e ∷ past) p run high =
     let off = not_of s limit e past p run high in rw off (own_none s limit past p run.1 high)
 
+-- in a run a processor beyond those of the script runs no thread
 running_none : (s : Script) (limit : ℕ) (past : List Event) (p : CpuNo) → IsRun s limit past → s.cpus ≤ p.0 → running p past ≡ None
 running_none s limit [] p run high = refl
 running_none s limit (e ∷ past) p run high =
@@ -217,6 +228,7 @@ module _ (s : Script) (limit : ℕ) (past : List Event) (run : IsRun s limit pas
       go true e = together x y e
       go false e = λ h. clash e (apart x y h)
 
+-- a search over the processors tells whether two activities stand on two of them after the history
 pub together_tells : (s : Script) (past : List Event) (cpus : List CpuState) (x y : Activity) (b : Bool) → b ≡ stand_together x y cpus →
     StandAfter s past cpus → Tells b (StandTogether s x y past)
 together_tells s past cpus x y b e h =

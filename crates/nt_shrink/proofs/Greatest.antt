@@ -38,18 +38,21 @@ pub fails_over : (test : ℕ → Bool) (n m : ℕ) → n ≡ suc m → test m �
 fails_over test n m h f =
     ap (greatest_below test) h ∙ ap (λ (b : Bool). if b then Some m else greatest_below test m) f
 
+-- if the number just below passes the test, it is the greatest that passes
 pub passes_here : (test : ℕ → Bool) (n m : ℕ) → n ≡ suc m → test m ≡ true → greatest_below test n ≡ Some m
 passes_here test n m h f =
     ap (greatest_below test) h ∙ ap (λ (b : Bool). if b then Some m else greatest_below test m) f
 
 -- ---- a scan from the back that passes over twins
 
+-- at the start of a search from the back no number has been passed over yet
 pub missed_first : (test : ℕ → Bool) (n : ℕ) (twins : List Bool) → length twins ≡ n → IsMissed test n twins n
 missed_first test n twins h = record {
   left = refl;
   missed = λ k. (let e : get_or twins n false ≡ false = get_or-eq_default twins false (omega (arith, h)) in absurd cc);
 }
 
+-- a number that fails the test is passed over by the search from the back
 pub missed_next : (test : ℕ → Bool) (n : ℕ) (twins : List Bool) (count at : ℕ) → IsMissed test n twins count → count ≡ suc at → test at ≡ false →
     IsMissed test n twins at
 missed_next test n twins count at h e f = record {

@@ -86,6 +86,7 @@ refused_before s limit g list low mid m h r o at k l =
 
 -- ---- numbers that are passed over
 
+-- where failing goes on down from a place to a lower one, the search may go on below the lower one
 down : (test : ℕ → Bool) (n : ℕ) (twins : List Bool) (d low high : ℕ) → high ≡ low + d →
     ((k : ℕ) → low ≤ k → k < high → test (suc k) ≡ false → test k ≡ false) → test high ≡ false → greatest_below test n ≡ greatest_below test high →
     (greatest_below test n ≡ greatest_below test low) × (test low ≡ false)
@@ -128,6 +129,7 @@ missed_half test n twins mid high o h each =
 
 -- ---- twins of the list
 
+-- if a place that is a twin of the one before it is not spare, then the one before is not spare either
 pub fail_together : (s : Script) (limit : ℕ) (g : Goal) (list : List Turn) (twins : List Bool) → AreTwins list twins → (k : ℕ) → IsTwin twins (suc k) →
     is_spare s limit g list (suc k) ≡ false → is_spare s limit g list k ≡ false
 fail_together s limit g list twins h k t f = twin_fails s limit g list twins (suc k) k h refl t f
@@ -162,6 +164,7 @@ pub whole_answer : (test : ℕ → Bool) (n : ℕ) (twins : List Bool) (o : Opti
 whole_answer test n twins (Some at) h = sym h
 whole_answer test n twins None h = sym h.left
 
+-- what the search by halves down to 0 answers is the greatest number that passes, or none if none does
 pub whole_search : (test : ℕ → Bool) (n : ℕ) (twins : List Bool) (r : Result (Option ℕ) AllocError) → IfOk r (IsAnswer test n twins 0) →
     IfOk r (λ o. o ≡ greatest_below test n)
 whole_search test n twins (Ok o) h = whole_answer test n twins o h

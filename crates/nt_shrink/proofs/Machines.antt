@@ -52,6 +52,7 @@ trace_stops s limit past (t ∷ xs) ys why h =
 
 -- ---- one turn
 
+-- a disjunction does not depend on the order of its parts
 or_swap : (a b : Bool) → (a || b) ≡ (b || a)
 or_swap true true = refl
 or_swap true false = refl
@@ -88,9 +89,11 @@ refused_one s limit g t r past m h refused = record {
 
 -- ---- several turns
 
+-- a machine that is as a run leaves it has taken no turns after that run
 pub taken_none : (s : Script) (limit : ℕ) (g : Goal) (past : List Event) (m : Machine) → Took s limit g past m → AreTaken s limit g [] past m
 taken_none s limit g past m h = record { end = past; traced_is = refl; took = h }
 
+-- a machine that has taken some turns and then one more has taken the longer list
 pub taken_more : (s : Script) (limit : ℕ) (g : Goal) (xs : List Turn) (t : Turn) (past : List Event) (m n : Machine) (h : AreTaken s limit g xs past m) →
     IsTaken s limit g t h.end n → AreTaken s limit g (xs ++ t ∷ []) past n
 taken_more s limit g xs t past m n h k = record {
@@ -100,6 +103,7 @@ taken_more s limit g xs t past m n h k = record {
   took = k.took;
 }
 
+-- if a turn is refused after those taken, the list with that turn and any more after it is refused
 pub refused_more : (s : Script) (limit : ℕ) (g : Goal) (xs ys : List Turn) (t : Turn) (past : List Event) (m : Machine) (h : AreTaken s limit g xs past m) →
     RefusesOne s limit t h.end → Refuses s limit (xs ++ t ∷ ys) past
 refused_more s limit g xs ys t past m h k = record {
@@ -114,6 +118,7 @@ sound s limit g past m h = (past, record { script = refl; limit_is = refl; after
 
 -- ---- a list of which the first turns were taken
 
+-- a list is what is before a place, the entry there, and what is after it
 split_at : (xs : List Turn) (i : ℕ) (d : Turn) → i < length xs → xs ≡ take i xs ++ get_or xs i d ∷ drop (i + 1) xs
 split_at xs i d h = sym (take-append-drop i xs) ∙ ap (λ (ys : List Turn). take i xs ++ ys) (drop_more xs i d h)
 
@@ -141,6 +146,7 @@ pub delivered_all : (s : Script) (limit : ℕ) (g : Goal) (xs : List Turn) (past
     m.is_met ≡ is_delivered g (traced_from s limit past xs)
 delivered_all s limit g xs past m h = h.took.met ∙ sym (ap (λ (x : Traced). is_delivered g x) h.traced_is)
 
+-- a list of turns of which one is refused does not deliver the request
 pub undelivered : (s : Script) (limit : ℕ) (g : Goal) (xs : List Turn) (past : List Event) → Refuses s limit xs past →
     false ≡ is_delivered g (traced_from s limit past xs)
 undelivered s limit g xs past h = sym (ap (λ (x : Traced). is_delivered g x) h.refused)

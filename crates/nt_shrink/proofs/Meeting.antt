@@ -13,6 +13,7 @@ use Rattle.nt_history.specs.Briefs.{events_in, no_rises, values_of, what_of}
 use Rattle.nt_shrink.specs.declared.goals.Goal.{Goal}
 use Rattle.nt_shrink.specs.Goals.{begins, delivers}
 
+-- whether a brief's event begins a goal's routine is the same for any two values of looks
 same_begin : (g : Goal) (r q : Rises) (d : Did) → begins g (what_of r d) ≡ begins g (what_of q d)
 same_begin g r q (did.Call c y f) = refl
 same_begin g r q (did.Look k) = refl
@@ -29,6 +30,7 @@ same_begin g r q (did.Gone t) = refl
 same_begin g r q (did.Free f l) = refl
 same_begin g r q did.Rest = refl
 
+-- some event begins the goal's routine exactly if one does with the values of all looks left out
 pub met : (g : Goal) (briefs : List Brief) (rises : List Rises) → list_any (λ b. begins g (what_of no_rises b.did)) briefs
     ≡ delivers g (events_in briefs rises)
 met g [] rises = refl
@@ -38,12 +40,14 @@ met g (b ∷ bs) rises =
 
 -- ---- in either order
 
+-- a disjunction swapped, with a test that always fails put in, is the same
 or_swapped : (a b : Bool) → (a || b) ≡ (b || (a || false))
 or_swapped true true = refl
 or_swapped true false = refl
 or_swapped false true = refl
 or_swapped false false = refl
 
+-- a test passes some event of a list exactly if it passes some event of the reversed list
 any_reversed : (test : Event → Bool) (es : List Event) → list_any test es ≡ list_any test (reverse es)
 any_reversed test [] = refl
 any_reversed test (e ∷ es) =
@@ -51,5 +55,6 @@ any_reversed test (e ∷ es) =
     ∙ (ap (λ (b : Bool). b || (test e || false)) (any_reversed test es)
     ∙ sym (ap (list_any test) (reverse-append (e ∷ []) es) ∙ list_any-append test (reverse es) (e ∷ [])))
 
+-- a history delivers the request in either order of its events
 pub delivered_so : (g : Goal) (es : List Event) → delivers g es ≡ delivers g (reverse es)
 delivered_so g es = any_reversed (λ e. begins g e.what) es

@@ -21,6 +21,7 @@ use Rattle.nt_shrink.proofs.Cutting.{IsWalked, put_after, put_here, walked, whol
 
 -- ---- the values of a look
 
+-- two mappings that agree on a list and on one more entry agree on the list with that entry
 more_same : (f h : ℕ → ℕ) (xs : List ℕ) (y : ℕ) → map f xs ≡ map h xs → f y ≡ h y → map f (xs ++ y ∷ []) ≡ map h (xs ++ y ∷ [])
 more_same f h xs y a b =
     map_push f xs y
@@ -28,6 +29,7 @@ more_same f h xs y a b =
     ∙ (ap (λ (z : ℕ). map h xs ++ z ∷ []) b
     ∙ sym (map_push h xs y)))
 
+-- places that are twins for a look's first values and for the next value are so for one value more
 pub values_more : (xs : List ℕ) (i d v : ℕ) (old mid new : List Bool) → i < length xs → v ≡ get_or xs i d →
     StayTwins (AreSameValues (take i xs)) old mid → StayTwins (IsSameValue v) mid new → StayTwins (AreSameValues (take (i + 1) xs)) old new
 values_more xs i d v old mid new l e first second at h =
@@ -36,14 +38,17 @@ values_more xs i d v old mid new l e first second at h =
     let more : AreSameValues (take i xs ++ v ∷ []) at = more_same (value_without at) (value_without (at + 1)) (take i xs) v a.1 b.1 in
     (a.0, subst (λ (ys : List ℕ). AreSameValues ys at) (sym (take_more xs i d l ∙ ap (λ (x : ℕ). take i xs ++ x ∷ []) (sym e))) more)
 
+-- without any values of a look looked at, all twins stay twins
 pub no_values : (values : List ℕ) (old : List Bool) → StayTwins (AreSameValues (take 0 values)) old old
 no_values values old at h = (h, refl)
 
+-- places that are twins for as many values as a look has are twins for all its values
 pub all_values : (xs : List ℕ) (i : ℕ) (old new : List Bool) → length xs ≤ i → StayTwins (AreSameValues (take i xs)) old new →
     StayTwins (AreSameValues xs) old new
 all_values xs i old new l stay =
     subst (λ (ys : List ℕ). StayTwins (AreSameValues ys) old new) (take_all i xs l) stay
 
+-- places that are twins for all values of a look are twins for the turn of that look
 pub look_same : (p : CpuNo) (r : Rises) (old new : List Bool) → StayTwins (AreSameValues r.value) old new → StayTwins (IsSameTurn (Look p r)) old new
 look_same p r old new stay at h = ((stay at h).0, ap (λ (ys : List ℕ). Look p (record { value = ys })) (stay at h).1)
 
@@ -53,6 +58,7 @@ look_same p r old new stay at h = ((stay at h).0, ap (λ (ys : List ℕ). Look p
 abbrev pub EndsNext : CpuNo → List Turn → Type 0
 EndsNext p xs = (ys : List Turn) × (xs ≡ ys ++ Next p ∷ [])
 
+-- of two equal next-turns at the end of a list either may be taken away for the other
 both_next : (at : ℕ) (p : CpuNo) (xs ys : List Turn) → xs ≡ ys ++ Next p ∷ [] → length ys ≡ at →
     without at (xs ++ Next p ∷ []) ≡ without (at + 1) (xs ++ Next p ∷ [])
 both_next at p xs ys e l =
@@ -63,6 +69,7 @@ both_next at p xs ys e l =
     ∙ (sym e
     ∙ sym (put_here (at + 1) xs (Next p) (omega (arith, one, l)) ∙ whole_before (at + 1) xs (omega (arith, one, l)))))
 
+-- case: the new turn and the last one are the same next-turn, and either place may go for the other
 new_pair : (at : ℕ) (xs : List Turn) (t : Turn) (last next : Option CpuNo) → length xs ≡ at + 1 → ((p : CpuNo) → last ≡ Some p → EndsNext p xs) →
     ((p : CpuNo) → next ≡ Some p → t ≡ Next p) → AreSame last next → without at (xs ++ t ∷ []) ≡ without (at + 1) (xs ++ t ∷ [])
 new_pair at xs t last next l ends is_next same =
@@ -72,6 +79,7 @@ new_pair at xs t last next l ends is_next same =
     subst (λ (u : Turn). without at (xs ++ u ∷ []) ≡ without (at + 1) (xs ++ u ∷ [])) (sym (is_next p same.1.1))
     (both_next at p xs end.0 end.1 (omega (arith, one, l)))
 
+-- case: an older pair of places stays as good as each other when a turn is added
 old_pair : (at : ℕ) (xs : List Turn) (t : Turn) → at + 1 < length xs → without at xs ≡ without (at + 1) xs → IsSameTurn t at →
     without at (xs ++ t ∷ []) ≡ without (at + 1) (xs ++ t ∷ [])
 old_pair at xs t l h k =
@@ -80,6 +88,7 @@ old_pair at xs t l h k =
     ∙ (ap (λ (u : Turn). without (at + 1) xs ++ u ∷ []) k
     ∙ sym (put_after (at + 1) xs t l)))
 
+-- the marks of equal neighbouring places are right after one more turn, with the mark of the new pair
 more_twins : (xs : List Turn) (old mid : List Bool) (t : Turn) (last next : Option CpuNo) (b : Bool) → AreTwins xs old → length xs ≡ length old →
     length mid ≡ length old → StayTwins (IsSameTurn t) old mid → ((p : CpuNo) → last ≡ Some p → EndsNext p xs) →
     ((p : CpuNo) → next ≡ Some p → t ≡ Next p) → (b ≡ true → AreSame last next) → AreTwins (xs ++ t ∷ []) (mid ++ b ∷ [])
@@ -113,6 +122,7 @@ pub record IsPaired (list walk : List Turn) (twins : List Bool) (last : Option C
   pub twins_are : AreTwins (take (length twins) list) twins
   pub ends : (p : CpuNo) → last ≡ Some p → EndsNext p (take (length twins) list)
 
+-- a walk over a list that has not begun has found no twins
 pub none_paired : (list : List Turn) → IsPaired list list [] None
 none_paired list = record {
   rest = refl;
@@ -121,10 +131,12 @@ none_paired list = record {
   ends = λ p h. absurd cc;
 }
 
+-- what holds of an optional processor holds of the processor that it is
 some_of : (P : CpuNo → Type 0) (o : Option CpuNo) → IfSome o P → (p : CpuNo) → o ≡ Some p → P p
 some_of P None h p k = absurd cc
 some_of P (Some q) h p k = let e : q ≡ p = cc in subst P e h
 
+-- a walk finds the twins of one turn more, where two next turns of one processor are twins too
 pub more_paired : (list walk more : List Turn) (old mid new : List Bool) (t : Turn) (last next : Option CpuNo) (b : Bool) →
     IsPaired list walk old last → walk ≡ t ∷ more → length mid ≡ length old → StayTwins (IsSameTurn t) old mid → IfSome next (λ p. t ≡ Next p) →
     (b ≡ true → AreSame last next) → new ≡ mid ++ b ∷ [] → IsPaired list more new next
@@ -148,6 +160,7 @@ more_paired list walk more old mid new t last next b h k m stay is_next same e =
       ends = λ p f. (take n list, taken ∙ ap (λ (u : Turn). take n list ++ u ∷ []) (next_is p f));
     }
 
+-- after a walk over the whole list each place has its flag, and the flags that are set are of twins
 pub all_paired : (list walk : List Turn) (twins : List Bool) (last : Option CpuNo) → IsPaired list walk twins last → walk ≡ [] →
     (length twins ≡ length list) × AreTwins list twins
 all_paired list walk twins last h k =

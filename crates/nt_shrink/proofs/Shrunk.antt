@@ -30,6 +30,7 @@ as_often s limit g n list (Some at) l h =
     let same : n ≡ length (without at list) = omega (arith, l, less) in
     ap (λ (m : ℕ). shrunk_by s limit g m (without at list)) same
 
+-- the shrunk list is that of the list without its greatest spare place, or the list itself if it has none
 pub by_the_greatest : (s : Script) (limit : ℕ) (g : Goal) (list : List Turn) →
     shrunk s limit g list ≡ left_out list (greatest_spare s limit g list) (shrunk s limit g)
 by_the_greatest s limit g [] = refl
@@ -37,6 +38,7 @@ by_the_greatest s limit g (t ∷ ts) = as_often s limit g (length ts) (t ∷ ts)
 
 -- ---- one step
 
+-- a list with no spare place is its own shrunk list
 pub none_left : (s : Script) (limit : ℕ) (g : Goal) (list : List Turn) → greatest_spare s limit g list ≡ None → shrunk s limit g list ≡ list
 none_left s limit g list h = by_the_greatest s limit g list ∙ ap (λ (o : Option ℕ). left_out list o (shrunk s limit g)) h
 
@@ -45,6 +47,7 @@ pub record IsShorter (s : Script) (limit : ℕ) (g : Goal) (list shorter : List 
   pub delivered : is_delivered g (traced s limit shorter) ≡ true
   pub shrunk_is : shrunk s limit g list ≡ shrunk s limit g shorter
 
+-- leaving out the greatest spare place gives a shorter list that delivers and has the same shrunk list
 pub one_left_out : (s : Script) (limit : ℕ) (g : Goal) (list : List Turn) (at : ℕ) → greatest_spare s limit g list ≡ Some at →
     IsShorter s limit g list (without at list)
 one_left_out s limit g list at h =
@@ -60,10 +63,12 @@ one_left_out s limit g list at h =
 abbrev Ended : Script → ℕ → Goal → List Turn → Type 0
 Ended s limit g list = (is_delivered g (traced s limit list) ≡ true) × (greatest_spare s limit g list ≡ None)
 
+-- case: no place can be spared, and the shrunk list ends as it should
 ended_here : (s : Script) (limit : ℕ) (g : Goal) (list : List Turn) → is_delivered g (traced s limit list) ≡ true → greatest_spare s limit g list ≡ None →
     Ended s limit g (shrunk s limit g list)
 ended_here s limit g list h none = subst (Ended s limit g) (sym (none_left s limit g list none)) (h, none)
 
+-- the shrunk list of a list that delivers the goal ends as it should, by the length of the list
 shrunk_ends : (s : Script) (limit : ℕ) (g : Goal) (n : ℕ) (list : List Turn) → length list ≤ n → is_delivered g (traced s limit list) ≡ true →
     Ended s limit g (shrunk s limit g list)
 shrunk_ends s limit g zero list l h =
@@ -80,6 +85,7 @@ shrunk_ends s limit g (suc n) list l h = go (greatest_spare s limit g list) refl
         let less = one.less in
         subst (Ended s limit g) (sym one.shrunk_is) (ih (without at list) (omega (arith, l, less)) one.delivered)
 
+-- if a list delivers the request, its shrunk list does so too and has no spare place
 pub shrunk_delivers : (s : Script) (limit : ℕ) (g : Goal) (list : List Turn) → is_delivered g (traced s limit list) ≡ true →
     IsDelivery s limit g (shrunk s limit g list) × NoneSpare s limit g (shrunk s limit g list)
 shrunk_delivers s limit g list h =
@@ -94,11 +100,13 @@ pub record IsShort (s : Script) (limit : ℕ) (g : Goal) (list short : List Turn
   pub delivered : is_delivered g (traced s limit short) ≡ true
   pub same : shrunk s limit g list ≡ shrunk s limit g short
 
+-- a list whose trace gives a history that delivers the goal delivers it
 delivered_by : (s : Script) (limit : ℕ) (g : Goal) (list : List Turn) (es : List Event) (b : Bool) → traced s limit list ≡ Ok (reverse es) →
     b ≡ delivers g es → b ≡ true → is_delivered g (traced s limit list) ≡ true
 delivered_by s limit g list es b h d t =
     ap (λ (r : Traced). is_delivered g r) h ∙ (sym (delivered_so g es) ∙ (sym d ∙ t))
 
+-- at the start the list itself is the short one, if it has at most 1000 turns and delivers the request
 pub started : (s : Script) (limit : ℕ) (g : Goal) (list short : List Turn) (es : List Event) (b : Bool) → length list ≤ 1000 →
     traced s limit list ≡ Ok (reverse es) → b ≡ delivers g es → b ≡ true → short ≡ without 1000 list → IsShort s limit g list short
 started s limit g list short es b l h d t k =
@@ -108,11 +116,13 @@ started s limit g list short es b l h d t k =
       same = refl;
     })
 
+-- a list found without a place has that place in the option
 some_place : (list shorter : List Turn) (o : Option ℕ) → Some shorter ≡ option_map (λ at. without at list) o →
     (at : ℕ) × ((o ≡ Some at) × (without at list ≡ shorter))
 some_place list shorter None h = absurd cc
 some_place list shorter (Some at) h = (at, (refl, cc))
 
+-- if no list without a place was found, there was no place
 no_place : (list : List Turn) (o : Option ℕ) (r : Option (List Turn)) → r ≡ option_map (λ at. without at list) o → r ≡ None → o ≡ None
 no_place list None r h k = refl
 no_place list (Some at) r h k = absurd cc
@@ -121,6 +131,7 @@ pub record IsFurther (s : Script) (limit : ℕ) (g : Goal) (list short shorter :
   pub short_is : IsShort s limit g list shorter
   pub less : length shorter < length short
 
+-- leaving out the greatest spare place of the short list is a further step of the shrinking
 pub further : (s : Script) (limit : ℕ) (g : Goal) (list short shorter : List Turn) → IsShort s limit g list short →
     Some shorter ≡ option_map (λ at. without at short) (greatest_spare s limit g short) → IsFurther s limit g list short shorter
 further s limit g list short shorter h e =
@@ -138,6 +149,7 @@ pub record IsDone (s : Script) (limit : ℕ) (g : Goal) (list short : List Turn)
   pub delivery_is : IsDelivery s limit g short
   pub none_spare : NoneSpare s limit g short
 
+-- once the short list has no spare place, it is the answer
 pub done : (s : Script) (limit : ℕ) (g : Goal) (list short : List Turn) (r : Option (List Turn)) (es : List Event) (b : Bool) → length list ≤ 1000 →
     traced s limit list ≡ Ok (reverse es) → b ≡ delivers g es → b ≡ true → IsShort s limit g list short →
     r ≡ option_map (λ at. without at short) (greatest_spare s limit g short) → r ≡ None → IsDone s limit g list short
@@ -155,10 +167,12 @@ done s limit g list short r es b l t d y h e k =
 
 -- ---- refusals
 
+-- if the trace of a list refuses a turn, the shrinking is refused with the same reason
 pub refused_trace : (s : Script) (limit : ℕ) (g : Goal) (list : List Turn) (r : TraceRefusal) (q : ShrinkRefusal) → length list ≤ 1000 →
     IsTraceRefused s limit list r → q ≡ as_shrink r → IsShrinkRefused s limit g list q
 refused_trace s limit g list (Bad at kind) q l h e = subst (λ (x : ShrinkRefusal). IsShrinkRefused s limit g list x) (sym e) (l, h)
 refused_trace s limit g list NoMemory q l h e = subst (λ (x : ShrinkRefusal). IsShrinkRefused s limit g list x) (sym e) tt
 
+-- being out of memory is a refusal of the shrinking for every list
 pub no_memory : (s : Script) (limit : ℕ) (g : Goal) (list : List Turn) (q : ShrinkRefusal) → q ≡ shrinks.NoMemory → IsShrinkRefused s limit g list q
 no_memory s limit g list q e = subst (λ (x : ShrinkRefusal). IsShrinkRefused s limit g list x) (sym e) tt

@@ -37,6 +37,7 @@ pub record IsTaking (s : Script) (limit : ℕ) (list : List Turn) (c : CpusState
   pub limit_is : c.limit ≡ limit
   pub rest_is : traced s limit list ≡ traced_from s limit (reverse es) rest
 
+-- the reverse of events with one more at the end has that one first
 last_first : (es new : List Event) (e : Event) → new ≡ es ++ e ∷ [] → reverse new ≡ e ∷ reverse es
 last_first es new e h = ap reverse h ∙ reverse-append es (e ∷ [])
 
@@ -46,6 +47,7 @@ pub step_there : (s : Script) (limit : ℕ) (c : CpusState) (t : Turn) (past : L
 step_there s limit c t past r p q h =
     subst (λ (x : Script). step x limit t past ≡ r) p (subst (λ (n : ℕ). step c.script n t past ≡ r) q h)
 
+-- a trace goes on from the events so far by the step of the next turn
 gone_on : (s : Script) (limit : ℕ) (list walk rest : List Turn) (t : Turn) (es : List Event) (r : Result Event ScheduleKind) →
     traced s limit list ≡ traced_from s limit (reverse es) walk → walk ≡ t ∷ rest → step s limit t (reverse es) ≡ r →
     traced s limit list ≡ goes_on (reverse es) r (λ e. traced_from s limit (e ∷ reverse es) rest)
@@ -70,6 +72,7 @@ taking_next s limit list walk rest t c d floor other v w es new e h k made kept 
           ∙ ap (λ (past : List Event). traced_from s limit past rest) (sym last);
     }
 
+-- no refusal of a step is of the kind unfinished
 never_unfinished : (r : CoreRefusal) → kind_of r ≡ Unfinished → ⊥
 never_unfinished NoSuchCpu h = absurd cc
 never_unfinished NothingToDo h = absurd cc

@@ -15,15 +15,18 @@ use Rattle.nt_states.specs.Allowed.{MayDo, MayMake}
 use Rattle.nt_states.specs.Given.{CanDecide, IsGiven, JobStands}
 use Rattle.nt_states.specs.Reads.{AreHeld}
 
+-- whoever has the whole states holds each lane of any list
 pub all_held : (lanes : List Lane) → AreHeld (λ l. Unit {0}) lanes
 all_held [] = tt
 all_held (x ∷ lanes) = (tt, all_held lanes)
 
 module _ (x : AllStates) (st : Stand) where
+  -- a thread that runs on a processor is one of this processor's own
   pub own : (o : Option ThreadNo) → IfSome o (λ t. RunsThere x.script x.lanes st t) → IfSome o (λ t. cpu_of x.script t ≡ st.cpu)
   own None h = tt
   own (Some t) h = h.own
 
+  -- a job that is allowed has what it needs of where the processor stands
   pub job_stands : (j : Job) → IsAllowed x.lanes st j → JobStands st j
   job_stands (job.Call c) h = h.1
   job_stands (job.Fire d) h = tt
@@ -40,10 +43,12 @@ module _ (x : AllStates) (st : Stand) where
   job_stands job.Leave h = tt
   job_stands job.Rundown h = h.thread
 
+  -- a job that may be done in these states can be decided
   pub can_decide : (j : Job) → MayDo x st j → CanDecide x.script st j
   can_decide j m =
       record { job = m.job; stand = m.stand; own = own st.thread m.stands; stands = job_stands j m.allowed }
 
+  -- an event that may be made in these states is the event of a job that can be decided
   pub is_given : (w : What) → MayMake x st w → IsGiven x.script x.lanes st w
   is_given w g =
       record { job = g.job; can = can_decide g.job g.may; gives = g.gives; named = g.named; taken = g.taken }

@@ -12,11 +12,13 @@ use Rattle.nt_states.specs.AllStates.{AllStates}
 use Rattle.nt_event.specs.Fitting.{key_fits}
 use Rattle.nt_states.specs.Sound.{IsSound}
 
+-- a setting that is read at a place of a list is at a place below the list's length
 set_within : (xs : List (Option Setting)) (n : ℕ) (x : Setting) → setting_in xs n ≡ Some x → n < length xs
 set_within [] n x h = absurd cc
 set_within (y ∷ xs) zero x h = omega arith
 set_within (y ∷ xs) (suc n) x h = let k = set_within xs n x h in omega arith
 
+-- in sound states the key of the entry that is due names a timer or a thread of the script
 pub due_key_fits : (x : AllStates) (key : TimerKey) → IsSound x → option_map (λ (e : TimerKey × ℕ). e.0) (due_entry x.lanes.timers) ≡ Some key →
     IsTrue (key_fits x.script key)
 due_key_fits x (OfTimer t) sound h =
@@ -30,6 +32,7 @@ due_key_fits x (OfDelay t) sound h =
     let size = sound.timers.delays in
     lt-ltb t.0 (length x.script.threads) (omega arith)
 
+-- in sound states the entry that is due, where there is one, has a key that fits the script
 pub due_fits : (x : AllStates) (o : Option (TimerKey × ℕ)) → IsSound x → o ≡ due_entry x.lanes.timers → IfSome o (λ k. IsTrue (key_fits x.script k.0))
 due_fits x None sound e = tt
 due_fits x (Some k) sound e = due_key_fits x k.0 sound (ap (λ (o : Option (TimerKey × ℕ)). option_map (λ (e : TimerKey × ℕ). e.0) o) (sym e))

@@ -28,6 +28,7 @@ module _ (x : AllStates) (st : Stand) where
       (record { object = a.0; reply = k.answer }, given t a.1)
   by_call f c y k = tt
 
+  -- what an event known from the states says of DPC objects and queues is so
   pub may_dpcs : (w : What) → Knows x st w → MayLeave (dpcs_of x) st.cpu w
   may_dpcs (Call f c y) k = by_call f c y k
   may_dpcs (Fire d y) k = record { object = k.fits; reply = k.answer }

@@ -76,6 +76,7 @@ module _ (x : AllStates) (st : Stand) where
   ends (Some (OnApc a UserApc)) h = h
   ends b h = tt
 
+  -- what an event known from the states does is one that a job gives in the states of the threads
   pub fits : (w : What) → Knows x st w → IsTrue (what_fits x.script w) → WhatFits (threads_of x) st w
   fits (Call f c y) k h = by_call f c y k
   fits (Switch t status) k h = switches t status k
@@ -93,6 +94,7 @@ module _ (x : AllStates) (st : Stand) where
   stands None h = tt
   stands (Some t) h = record { named = h.named; own = h.own; runs = h.runs }
 
+  -- an event that may be made in the whole states may be made in the states of the threads
   pub may_threads : (w : What) → MayMake x st w → MayLeave (threads_of x) st (acted_event st x.lanes w)
   may_threads w g =
       record { cpu = refl; thread = refl; stands = stands st.thread g.may.stands; what = fits w (knows x st w g) g.named }

@@ -51,5 +51,6 @@ module _ (x : AllStates) (st : Stand) (sound : IsSound x) where
   of_what (Expire key from) n h k = k
   of_what w n h k = tt
 
+  -- an event that may be made in sound states may be made in the states of the timers
   pub may_timers : (w : What) → MayMake x st w → MayTime x.script x.lanes.timers (acted_event st x.lanes w) w
   may_timers w g = of_what w g.may.stand (own x st st.thread g.may.stands) (knows x st w g)

@@ -10,12 +10,15 @@ use Rattle.nt_event.specs.Requests.{Ask, is_ask, raised, spinner_asks}
 use Rattle.nt_event.specs.declared.class.Asked.{Asked}
 use Rattle.nt_states.specs.LaneLists.{AskFits, as_ask, as_asks}
 
+-- if a property holds of each element of a list, it holds of the first
 pub all_head : {A : Type 0} (P : A → Type 0) (x : A) (xs : List A) → All P (x ∷ xs) → P x
 all_head P x xs h = h 0 x (omega arith)
 
+-- if a property holds of each element of a list, it holds of each after the first
 pub all_tail : {A : Type 0} (P : A → Type 0) (x : A) (xs : List A) → All P (x ∷ xs) → All P xs
 all_tail P x xs h k d l = h (suc k) d (omega arith)
 
+-- if a property holds of an element and of each of a list, it holds of each of the list with it in front
 all_more : {A : Type 0} (P : A → Type 0) (x : A) (xs : List A) → P x → All P xs → All P (x ∷ xs)
 all_more P x xs h t zero d l = h
 all_more P x xs h t (suc k) d l = t k d (omega arith)
@@ -34,10 +37,12 @@ spinners_named s n (true ∷ flags) h =
     (spinners_named s (suc n) flags (omega arith))
 spinners_named s n (false ∷ flags) h = spinners_named s (suc n) flags (omega arith)
 
+-- one more than an event's number under a test, else the old value, is the raised value
 pub as_raised : (b : Bool) (n old : ℕ) → (if b then n + 1 else old) ≡ raised b n old
 as_raised true n old = refl
 as_raised false n old = refl
 
+-- a request that passes the test for a processor and a class is for this processor and this class
 pub is_ask_true : (q : CpuNo) (d : ℕ) (a : Ask) → is_ask q d a ≡ true → (a.cpu.0 ≡ q.0) × (a.class ≡ d)
 is_ask_true q d a h =
     let p = and_parts (a.cpu.0 == q.0) (a.class == d) h in
@@ -51,6 +56,7 @@ each_asked P asked asks e h k d l =
     let at : P (get_or (as_asks asked) k (as_ask d)) = all k (as_ask d) (omega (arith, size)) in
     subst P (get_or-map as_ask asked k d (as_ask d) l) at
 
+-- once no request is left to go through, the value so far is the final one
 pub none_left : (asks : List Asked) (i : ℕ) (p : CpuNo) (c to v all : ℕ) → length asks ≤ i → (if list_any (is_ask p c) (as_asks (drop i asks)) then to else v)
     ≡ all → v ≡ all
 none_left asks i p c to v all h e = rw (drop_all i asks h) at e

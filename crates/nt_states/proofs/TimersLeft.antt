@@ -30,6 +30,7 @@ use Rattle.nt_states.specs.Timed.{CallMayTime, IsMaker, MayTime, call_timed, del
 abbrev event_of : CpuNo → Option ThreadNo → ℕ → What → Event
 event_of p r k w = record { cpu = p; thread = r; level = k; what = w }
 
+-- a choice between a value and itself is this value
 either_way : {A : Type 0} (b : Bool) (x : A) → cond b x x ≡ x
 either_way true x = refl
 either_way false x = refl
@@ -109,6 +110,7 @@ module _ (s : Script) (st : Stand) (p : CpuNo) (k n : ℕ) (x : Timers) (size : 
       timer_calls_are_events.expire s st (event_of p r k (Expire key from)) x n from key size refl
   by_what r w h = stays r w refl (λ t old. refl) (λ t old. unset r w t old)
 
+-- what an event that may be made leaves of the timers is what its calls leave
 pub timers_left : (s : Script) (st : Stand) (e : Event) (n : ℕ) (x : Timers) → IsSized s x → MayTime s x e e.what → timers_after s n st e x
     ≡ timed n st e.thread e.what x
 timers_left s st e n x size h = by_what s st e.cpu e.level n x size e.thread e.what h

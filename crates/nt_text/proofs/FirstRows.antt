@@ -18,6 +18,7 @@ kept_before keep (x ∷ xs) = go (keep x) refl (position_or_len (λ b. not (keep
     go false e n h = refl
     go true e n h = let one : 1 + n ≡ suc n = omega arith in rw one (and_from (keep x) (list_all keep (take n xs)) e h)
 
+-- all bytes before the first that fails a test pass it
 pub kept : (keep : ℕ → Bool) (xs : List ℕ) (n : ℕ) → position (λ b. not (keep b)) xs ≡ Some n → list_all keep (take n xs) ≡ true
 kept keep xs n e = rw (← (some_if _ _ _ e).1) (kept_before keep xs)
 
@@ -25,9 +26,11 @@ kept keep xs n e = rw (← (some_if _ _ _ e).1) (kept_before keep xs)
 first_line : (line rest : List ℕ) → list_all is_printable line ≡ true → lines (line ++ 10 ∷ rest) ≡ (line, true) ∷ lines rest
 first_line line rest e = rw (slice_split_at (is_byte 10) line 10 rest (no_newline line e) refl) (more_lines line rest)
 
+-- an ended line of printable bytes is read as the row of its fields
 whole_row : (line : List ℕ) → list_all is_printable line ≡ true → row_of (line, true) ≡ Ok (fields line)
 whole_row line e = rw e refl
 
+-- a text that begins with an ended printable line has its fields as first row, and its other lines are the rest
 first_row : (bytes line rest : List ℕ) → list_all is_printable line ≡ true → bytes ≡ line ++ 10 ∷ rest →
     (option_map row_of (slice_get (lines bytes) 0) ≡ Some (Ok (fields line))) × (lines rest ≡ drop 1 (lines bytes))
 first_row bytes line rest e is = rw (is, first_line line rest e) (ap Some (whole_row line e), refl)

@@ -13,11 +13,13 @@ use Rattle.std.proofs.lemmas.List.Splits.{slice_split_at, join_with_byte-slice_s
 use Rattle.nt_text.specs.Lines.{is_byte, is_inner, lines, lines_of_parts, number_line, parts}
 use Rattle.nt_text.proofs.Cuts.{more_lines}
 
+-- bytes that may all stand within a line have no line end among them
 none_ends : (xs : List ℕ) → list_all is_inner xs ≡ true → All (λ b. is_byte 10 b ≡ false) xs
 none_ends [] e k d h = absurd (omega arith)
 none_ends (b ∷ bs) e zero d h = not-true (is_byte 10 b) (and_parts (is_inner b) (list_all is_inner bs) e).0
 none_ends (b ∷ bs) e (suc k) d h = none_ends bs (and_parts (is_inner b) (list_all is_inner bs) e).1 k d (omega arith)
 
+-- the byte of a digit may stand within a line
 digit_inner : (digit : ℕ) → is_inner (48 + digit) ≡ true
 digit_inner digit = rw (ne_eqb (48 + digit) 10 (λ z. absurd (omega arith))) refl
 
@@ -25,6 +27,7 @@ digit_inner digit = rw (ne_eqb (48 + digit) 10 (λ z. absurd (omega arith))) ref
 abbrev pub Short : ℕ → Type 0
 Short n = ((n < 10) × (decimal n ≡ (48 + n) ∷ [])) ⊎ ((10 ≤ n) × (decimal n ≡ (48 + n / 10) ∷ (48 + n % 10) ∷ []))
 
+-- a number below 100 is written as one digit if it is below 10, and else as two
 pub short : (n : ℕ) → n < 100 → Short n
 short n h = go (nat_lt n 10) refl
   where
@@ -32,6 +35,7 @@ short n h = go (nat_lt n 10) refl
     go true e = let few : n < 10 = grind (arith, nat_tests) in inl (few, decimal_digit n few)
     go false e = let least : 10 ≤ n = grind (arith, nat_tests) in inr (least, decimal_two n least h)
 
+-- the digits of a number below 100 may stand within a line
 short_inner : (n : ℕ) → n < 100 → list_all is_inner (decimal n) ≡ true
 short_inner n h = elim (short n h) [
   | inl one ↦ rw (one.1, digit_inner n) refl

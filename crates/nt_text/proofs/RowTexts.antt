@@ -8,6 +8,7 @@ pub joined : (f : List ℕ) (fs : Row) → join_with_byte 32 (f ∷ fs) ≡ f ++
 joined f [] = sym (append-nil f)
 joined f (g ∷ fs) = ap (λ (xs : List ℕ). f ++ 32 ∷ xs) (joined g fs)
 
+-- the text of a row is its first field, then a space and a field for each other, then the end of the line
 pub row_text_cons : (f : List ℕ) (fs : Row) → row_text (f ∷ fs) ≡ f ++ (spaced fs ++ 10 ∷ [])
 row_text_cons f fs = ap (λ (xs : List ℕ). xs ++ 10 ∷ []) (joined f fs) ∙ append_assoc f (spaced fs) (10 ∷ [])
 
@@ -29,6 +30,7 @@ spaced_append [] gs = refl
 spaced_append (f ∷ fs) gs = ap (λ (xs : List ℕ). 32 ∷ (f ++ xs)) (spaced_append fs gs)
     ∙ ap (λ (xs : List ℕ). 32 ∷ xs) (sym (append_assoc f (spaced fs) (spaced gs)))
 
+-- the text of two lists of rows is the text of the first and then that of the second
 pub rows_text-append : (a b : List Row) → rows_text (a ++ b) ≡ rows_text a ++ rows_text b
 rows_text-append [] b = refl
 rows_text-append (row ∷ rows) b = ap (λ (xs : List ℕ). row_text row ++ xs) (rows_text-append rows b)

@@ -67,6 +67,7 @@ pub facts-rewait : (s : Script) (t : ThreadNo) (n : ℕ) (st : Stand) (e : Event
     is_of_thread s t e ≡ true → facts_after s t n st e x ≡ waited_again n st.regions st.level st.again y x
 facts-rewait s t n st e x f y what of = facts-by s t n st e x (Rewait f y) true what of
 
+-- the reply that says whether a test passed is an answer, either way
 answer-yes_if : (b : Bool) → is_answer (yes_if b) ≡ true
 answer-yes_if true = refl
 answer-yes_if false = refl
@@ -109,6 +110,7 @@ facts-gone s t n st e x u what of = facts-by s t n st e x (Gone u) true what of
 
 -- ---- events that name the thread, whoever makes them
 
+-- where the first of two tests passes, a choice by both of them is the choice by the second
 if-both : (y : Bool) (b c : Bool) (x z : ThreadFacts) → y ≡ true → b ≡ c → (if y && b then z else x) ≡ (if c then z else x)
 if-both y b c x z p q = ap (λ (v : Bool). if v && b then z else x) p ∙ ap (λ (v : Bool). if v then z else x) q
 
@@ -130,6 +132,7 @@ pub facts-insert : (s : Script) (t : ThreadNo) (n : ℕ) (st : Stand) (e : Event
 facts-insert s t n st e x f a c what at =
     facts-named s t n st e x (Call f (InsertApc a) Yes) what refl ∙ ap (λ (v : Bool). if v then insert_facts (new_pick s a n) x else x) at
 
+-- an insert of an APC that is answered no leaves every thread's facts as they were
 pub facts-no_insert : (s : Script) (t : ThreadNo) (n : ℕ) (st : Stand) (e : Event) (x : ThreadFacts) (f : ℕ) (a : ApcNo) → e.what ≡ Call f (InsertApc a) No →
     facts_after s t n st e x ≡ x
 facts-no_insert s t n st e x f a what = facts-named s t n st e x (Call f (InsertApc a) No) what refl
@@ -140,6 +143,7 @@ pub facts-remove : (s : Script) (t : ThreadNo) (n : ℕ) (st : Stand) (e : Event
 facts-remove s t n st e x f a c what at =
     facts-named s t n st e x (Call f (RemoveApc a) Yes) what refl ∙ ap (λ (v : Bool). if v then (record x { apcs = without_apc a x.apcs }) else x) at
 
+-- a removal of an APC that is answered no leaves every thread's facts as they were
 pub facts-no_remove : (s : Script) (t : ThreadNo) (n : ℕ) (st : Stand) (e : Event) (x : ThreadFacts) (f : ℕ) (a : ApcNo) → e.what ≡ Call f (RemoveApc a) No →
     facts_after s t n st e x ≡ x
 facts-no_remove s t n st e x f a what = facts-named s t n st e x (Call f (RemoveApc a) No) what refl

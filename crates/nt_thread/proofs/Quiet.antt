@@ -26,19 +26,23 @@ use Rattle.nt_event.specs.Quiet.{IsQuiet, NothingBehind, QuietDoing}
 
 -- ---- options
 
+-- an option that tests as having no value is none
 pub none-from : {X : Type 0} (o : Option X) → is_some o ≡ false → o ≡ None
 none-from None h = refl
 none-from (Some x) h = absurd (true≢false h)
 
+-- an option that is none tests as having no value
 some-of-none : {X : Type 0} (o : Option X) → o ≡ None → is_some o ≡ false
 some-of-none o h = ap is_some h
 
+-- an option, or else none, is the option itself
 or-none : {X : Type 0} (o : Option X) → option_or o None ≡ o
 or-none None = refl
 or-none (Some x) = refl
 
 -- ---- an insert
 
+-- an insert of a kernel kind isn't a user APC
 kernel-not_user : (x : Pick) → is_kernel_kind x.kind ≡ true → is_of_kind UserApc x ≡ false
 kernel-not_user x h = go x.kind h where
   go : (k : ApcKind) → is_kernel_kind k ≡ true → same_kind UserApc k ≡ false
@@ -46,6 +50,7 @@ kernel-not_user x h = go x.kind h where
   go NormalApc h = refl
   go UserApc h = absurd (false≢true h)
 
+-- an APC kind that isn't a kernel kind is the user kind
 user-kind : (k : ApcKind) → is_kernel_kind k ≡ false → k ≡ UserApc
 user-kind SpecialApc h = absurd (true≢false h)
 user-kind NormalApc h = absurd (true≢false h)
@@ -62,6 +67,7 @@ deliverable-with_user : (x : Pick) (q : ApcQueues) (r : Regions) (level : ℕ) �
 deliverable-with_user x q r level h =
     deliverable-with x q r level ∙ ap (λ (k : ApcKind). may_begin r level (kind_with k (kind_in (first_kernel q)))) h ∙ sym (deliverable-kind q r level)
 
+-- an insert that doesn't end the wait of a blocked thread leaves nothing deliverable behind its block
 blocked-added : (pick : Pick) (w : Waiting) (x : ThreadFacts) → x.doing ≡ IsBlocked w → IsQuiet w x.apcs → ends_by_apc pick x ≡ false →
     IsQuiet w (with_apc pick x.apcs)
 blocked-added pick w x d h e = go (is_kernel_kind pick.kind) refl where
@@ -95,6 +101,7 @@ quiet-added pick x h e = go x.doing refl h where
   go IsRunning d q = tt
   go IsGone d q = tt
 
+-- a thread whose wait an APC has ended isn't blocked, so nothing is behind a block
 ended-doing : (k : ApcKind) (x : ThreadFacts) (q : ApcQueues) → QuietDoing (ended_by k x).doing q
 ended-doing SpecialApc x q = tt
 ended-doing NormalApc x q = tt
@@ -108,15 +115,18 @@ quiet-accepted pick old x false new h e i n =
     let added : QuietDoing old.doing (with_apc pick old.apcs) = quiet-added pick old h (sym e) in
     subst (λ (q : ApcQueues). QuietDoing x.doing q) (sym n) (subst (λ (y : ThreadFacts). QuietDoing y.doing (with_apc pick y.apcs)) (sym i) added)
 
+-- ending a wait for an APC leaves the thread's APC queues as they were
 ended-apcs : (k : ApcKind) (x : ThreadFacts) → (ended_by k x).apcs ≡ x.apcs
 ended-apcs SpecialApc x = refl
 ended-apcs NormalApc x = refl
 ended-apcs UserApc x = refl
 
+-- a thread whose wait an APC ended, or that stayed as it was, has the APC queues that it had
 same-apcs : (k : ApcKind) (old x : ThreadFacts) (b : Bool) → x ≡ (if b then ended_by k old else old) → x.apcs ≡ old.apcs
 same-apcs k old x true i = ap (λ (y : ThreadFacts). y.apcs) i ∙ ended-apcs k old
 same-apcs k old x false i = ap (λ (y : ThreadFacts). y.apcs) i
 
+-- what holds if a truth value is true holds where the value is true
 on-true : (b : Bool) (P : Type 0) → b ≡ true → OnTrue b P → P
 on-true true P e h = h
 on-true false P e h = absurd (false≢true e)
@@ -129,6 +139,7 @@ accepted-put pick old x b new r i t a h =
 
 -- ---- a removal
 
+-- if a search finds nothing in a list of inserts, it finds nothing in the filtered list
 find-filter_none : {X : Type 0} (t p : X → Bool) (xs : List X) → find t xs ≡ None → find t (filter p xs) ≡ None
 find-filter_none t p [] h = refl
 find-filter_none {X} t p (x ∷ xs) h = go (t x) (p x) refl refl h (find-filter_none t p xs) where
@@ -138,6 +149,7 @@ find-filter_none {X} t p (x ∷ xs) h = go (t x) (p x) refl refl h (find-filter_
   go false true e f h rest = rw e (rest h)
   go false false e f h rest = rest h
 
+-- if no insert of a kind is pending, none is after an APC object's insert is removed
 first-without_none : (kind : ApcKind) (a : ApcNo) (q : ApcQueues) → first_of_kind kind q ≡ None → first_of_kind kind (without_apc a q) ≡ None
 first-without_none kind a q h =
     ap (λ (xs : List Pick). find (is_of_kind kind) xs) (sym (filter-reverse (λ x. not (is_of_apc a x)) q.pending))
@@ -163,6 +175,7 @@ still-held r level (Some z) n None (Some y) a b c d e f h = rw (d y refl) (norma
 still-held r level None (Some z) None (Some y) a b c d e f h = rw (d y refl) (rw (b z refl) at h)
 still-held r level None None None (Some y) a b c d e f h = absurd (true≢false (ap is_some (f refl)))
 
+-- removing an APC object's insert leaves nothing deliverable behind the block of a waiting thread
 blocked-without : (a : ApcNo) (w : Waiting) (q : ApcQueues) → IsQuiet w q → IsQuiet w (without_apc a q)
 blocked-without a w q h = record {
   kernel = none-from _ (deliverable-kind (without_apc a q) w.regions w.level
@@ -182,6 +195,7 @@ quiet-without a d q new e h = subst (λ (x : ApcQueues). QuietDoing d x) (sym e)
   go IsRunning h = tt
   go IsGone h = tt
 
+-- nothing becomes deliverable behind a block if an APC is flushed from the queues or none was there to flush
 pub quiet-flushed : (r : Option (ApcNo × ℕ)) (d : Doing) (q new : ApcQueues) → IfSome r (λ y. new ≡ without_apc y.0 q) → IfNone r (new ≡ q) → QuietDoing d q →
     QuietDoing d new
 quiet-flushed None d q new some none h = subst (λ (x : ApcQueues). QuietDoing d x) (sym none) h

@@ -28,16 +28,19 @@ same-if f false v x y h k = k
 
 -- ---- alerted
 
+-- setting the alert flag of one mode changes this mode's flag alone
 set-alerted : (m k : Mode) (b : Bool) (x : ThreadFacts) → is_alerted m (set_alerted k b x) ≡ (if same_mode k m then b else is_alerted m x)
 set-alerted KernelMode KernelMode b x = refl
 set-alerted KernelMode UserMode b x = refl
 set-alerted UserMode KernelMode b x = refl
 set-alerted UserMode UserMode b x = refl
 
+-- ending a wait leaves the alert flags as they were
 same-ended : (m : Mode) (st : ℕ) (x : ThreadFacts) → is_alerted m (ended st x) ≡ is_alerted m x
 same-ended KernelMode st x = refl
 same-ended UserMode st x = refl
 
+-- an alert sets its own mode's flag alone, unless it ends a wait or the thread is gone
 alert-row : (m k : Mode) (x : ThreadFacts) → is_alerted m (alert_facts k x) ≡ left_by (sets_alert m (Alerts k) x) false (is_alerted m x)
 alert-row m k x = go (is_gone x) (ends_by_alert k x) (same_mode k m) (set-alerted m k true x) where
   go : (g e s : Bool) → is_alerted m (set_alerted k true x) ≡ (if s then true else is_alerted m x) →
@@ -49,13 +52,16 @@ alert-row m k x = go (is_gone x) (ends_by_alert k x) (same_mode k m) (set-alerte
   go false false true h = h
   go false false false h = h
 
+-- setting the user-pending mark leaves the alert flags as they were
 user_pending-alerted : (m : Mode) (b : Bool) (x : ThreadFacts) → is_alerted m (record x { user_pending = b }) ≡ is_alerted m x
 user_pending-alerted KernelMode b x = refl
 user_pending-alerted UserMode b x = refl
 
+-- clearing the alert flag of one mode clears this mode's flag alone
 clear-row : (m k : Mode) (x : ThreadFacts) → is_alerted m (set_alerted k false x) ≡ left_by false (same_mode k m) (is_alerted m x)
 clear-row m k x = set-alerted m k false x
 
+-- a test of the alert flag of one mode clears this mode's flag alone
 test-row : (m k : Mode) (x : ThreadFacts) → is_alerted m (alert_tested k x) ≡ left_by false (same_mode k m) (is_alerted m x)
 test-row m k x = go (is_alerted k x) (is_user k && has_user x.apcs) refl where
   same : (m k : Mode) → is_alerted k x ≡ false → is_alerted m x ≡ left_by false (same_mode k m) (is_alerted m x)
@@ -76,16 +82,19 @@ test-row m k x = go (is_alerted k x) (is_user k && has_user x.apcs) refl where
 apart : (st n k : ℕ) → (n == k) ≡ false → (st == n) ≡ true → (st == k) ≡ false
 apart st n k d e = let same : st ≡ n = eqb-true st n e in ap (λ (v : ℕ). v == k) same ∙ d
 
+-- setting the user-pending mark under a condition leaves the alert flags as they were
 alerted-user_pending : (m : Mode) (b c : Bool) (x : ThreadFacts) → is_alerted m (if c then (record x { user_pending = b }) else x) ≡ is_alerted m x
 alerted-user_pending m b true x = user_pending-alerted m b x
 alerted-user_pending m b false x = refl
 
+-- clearing the released mark unless a wait is a delay leaves the alert flags as they were
 alerted-released : (m : Mode) (d : Bool) (x : ThreadFacts) → is_alerted m (if d then x else (record x { released = false })) ≡ is_alerted m x
 alerted-released KernelMode true x = refl
 alerted-released KernelMode false x = refl
 alerted-released UserMode true x = refl
 alerted-released UserMode false x = refl
 
+-- a wait that answers clears an alert flag only if it answers alerted, of its own mode if set, else kernel mode
 answered-alerted : (m k : Mode) (st : ℕ) (a d : Bool) (x : ThreadFacts) →
     is_alerted m (answered st k a d x) ≡ left_by false ((st == alerted) && same_mode (if is_alerted k x then k else KernelMode) m) (is_alerted m x)
 answered-alerted m k st a d x = go (st == satisfied) refl (st == alerted) refl where
@@ -98,6 +107,7 @@ answered-alerted m k st a d x = go (st == satisfied) refl (st == alerted) refl w
   go false e true f = clear-row m (if is_alerted k x then k else KernelMode) x
   go false e false f = alerted-user_pending m true ((st == user_apc) && a) x
 
+-- the reply to a wait clears an alert flag only if it is alerted; a wait that blocks clears none
 waited-alerted : (m : Mode) (w : Wait) (y : Reply) (x : ThreadFacts) → is_alerted m
     (waited w.number w.regions w.level w.mode w.alertable (is_some w.reached) y x) ≡ left_by false
     (has_status alerted y && same_mode (if is_alerted w.mode x then w.mode else KernelMode) m) (is_alerted m x)
@@ -110,10 +120,12 @@ waited-alerted m w No x = refl
 waited-alerted m w (Refused r) x = refl
 waited-alerted m w Spin x = refl
 
+-- setting an alert flag leaves the user-pending mark as it was
 set-alerted-user_pending : (k : Mode) (b : Bool) (x : ThreadFacts) → (set_alerted k b x).user_pending ≡ x.user_pending
 set-alerted-user_pending KernelMode b x = refl
 set-alerted-user_pending UserMode b x = refl
 
+-- a wait that answers sets the user-pending mark only if it is alertable and answers user APC
 answered-user_pending : (k : Mode) (st : ℕ) (a d : Bool) (x : ThreadFacts) →
     (answered st k a d x).user_pending ≡ left_by ((st == user_apc) && a) false x.user_pending
 answered-user_pending k st a d x = go (st == satisfied) refl (st == alerted) refl (st == user_apc) refl where
@@ -133,6 +145,7 @@ answered-user_pending k st a d x = go (st == satisfied) refl (st == alerted) ref
     both true = refl
     both false = refl
 
+-- the reply to a wait sets the user-pending mark only if it is user APC and the wait is alertable
 waited-user_pending : (w : Wait) (y : Reply) (x : ThreadFacts) → (waited w.number w.regions w.level w.mode w.alertable
     (is_some w.reached) y x).user_pending ≡ left_by (has_status user_apc y && w.alertable) false x.user_pending
 waited-user_pending w (Status st) x = answered-user_pending w.mode st w.alertable (is_some w.reached) x
@@ -143,10 +156,12 @@ waited-user_pending w No x = refl
 waited-user_pending w (Refused r) x = refl
 waited-user_pending w Spin x = refl
 
+-- setting an alert flag leaves the released mark as it was
 set-alerted-released : (k : Mode) (b : Bool) (x : ThreadFacts) → (set_alerted k b x).released ≡ x.released
 set-alerted-released KernelMode b x = refl
 set-alerted-released UserMode b x = refl
 
+-- a wait that answers clears the released mark only if it is satisfied and isn't a delay
 answered-released : (k : Mode) (st : ℕ) (a : Bool) (reached : Option Bool) (x : ThreadFacts) →
     (answered st k a (is_some reached) x).released ≡ left_by false ((st == satisfied) && is_none reached) x.released
 answered-released k st a reached x = go (st == satisfied) reached where
@@ -162,6 +177,7 @@ answered-released k st a reached x = go (st == satisfied) reached where
   go true (Some r) = refl
   go false reached = rest (st == alerted) ((st == user_apc) && a)
 
+-- the reply to a wait clears the released mark only if it is satisfied and the wait isn't a delay
 waited-released : (w : Wait) (y : Reply) (x : ThreadFacts) → (waited w.number w.regions w.level w.mode w.alertable
     (is_some w.reached) y x).released ≡ left_by false (has_status satisfied y && is_none w.reached) x.released
 waited-released w (Status st) x = answered-released w.mode st w.alertable w.reached x
@@ -172,10 +188,12 @@ waited-released w No x = refl
 waited-released w (Refused r) x = refl
 waited-released w Spin x = refl
 
+-- setting an alert flag leaves the mark that the thread is leaving as it was
 set-alerted-leaving : (k : Mode) (b : Bool) (x : ThreadFacts) → (set_alerted k b x).leaving ≡ x.leaving
 set-alerted-leaving KernelMode b x = refl
 set-alerted-leaving UserMode b x = refl
 
+-- a wait, whatever its reply, leaves the mark that the thread is leaving as it was
 waited-leaving : (w : Wait) (y : Reply) (x : ThreadFacts) → (waited w.number w.regions w.level w.mode w.alertable (is_some w.reached) y x).leaving ≡ x.leaving
 waited-leaving w (Status st) x =
     same-if (λ z. z.leaving) (st == satisfied) x.leaving _ _ (same-if (λ z. z.leaving) (is_some w.reached) x.leaving _ _ refl refl)
@@ -197,10 +215,12 @@ insert-keeps : (f : ThreadFacts → Bool) (pick : Pick) (x : ThreadFacts) → f 
 insert-keeps f pick x none kernel user =
     same-if f (ends_by_apc pick x) (f x) _ _ (same-if f (is_kernel_kind pick.kind) (f x) _ _ kernel user) none
 
+-- an insert of an APC leaves the alert flags as they were
 insert-alerted : (m : Mode) (pick : Pick) (x : ThreadFacts) → is_alerted m (insert_facts pick x) ≡ is_alerted m x
 insert-alerted KernelMode pick x = insert-keeps (λ z. z.alerted_kernel) pick x refl refl refl
 insert-alerted UserMode pick x = insert-keeps (λ z. z.alerted_user) pick x refl refl refl
 
+-- an insert of an APC sets the user-pending mark only if it is accepted and ends a wait by a user APC
 insert-user_pending : (pick : Pick) (x : ThreadFacts) → (if takes pick.apc x.apcs then insert_facts pick x else x).user_pending ≡ left_by
     (takes pick.apc x.apcs && (ends_by_apc pick x && not (is_kernel_kind pick.kind))) false x.user_pending
 insert-user_pending pick x = go (takes pick.apc x.apcs) (ends_by_apc pick x) (is_kernel_kind pick.kind) where
@@ -214,6 +234,7 @@ insert-user_pending pick x = go (takes pick.apc x.apcs) (ends_by_apc pick x) (is
 
 -- ---- the other calls
 
+-- an APC that is taken leaves the alert flags as they were
 taken-alerted : (m : Mode) (k : ApcKind) (a : ApcNo) (x : ThreadFacts) → is_alerted m (apc_taken k a x) ≡ is_alerted m x
 taken-alerted KernelMode SpecialApc a x = refl
 taken-alerted KernelMode NormalApc a x = refl
@@ -222,24 +243,29 @@ taken-alerted UserMode SpecialApc a x = refl
 taken-alerted UserMode NormalApc a x = refl
 taken-alerted UserMode UserApc a x = refl
 
+-- an APC that is taken clears the user-pending mark only if it is a user APC
 taken-user_pending : (k : ApcKind) (a : ApcNo) (x : ThreadFacts) → (apc_taken k a x).user_pending ≡ left_by false (not (is_kernel_kind k)) x.user_pending
 taken-user_pending SpecialApc a x = refl
 taken-user_pending NormalApc a x = refl
 taken-user_pending UserApc a x = refl
 
+-- an APC that is taken leaves the released mark as it was
 taken-released : (k : ApcKind) (a : ApcNo) (x : ThreadFacts) → (apc_taken k a x).released ≡ x.released
 taken-released SpecialApc a x = refl
 taken-released NormalApc a x = refl
 taken-released UserApc a x = refl
 
+-- an APC that is taken leaves the mark that the thread is leaving as it was
 taken-leaving : (k : ApcKind) (a : ApcNo) (x : ThreadFacts) → (apc_taken k a x).leaving ≡ x.leaving
 taken-leaving SpecialApc a x = refl
 taken-leaving NormalApc a x = refl
 taken-leaving UserApc a x = refl
 
+-- a release leaves a flag as it was, if ending a wait and setting the released mark do
 release-keeps : (f : ThreadFacts → Bool) (x : ThreadFacts) → f (ended satisfied x) ≡ f x → f (record x { released = true }) ≡ f x → f (release_facts x) ≡ f x
 release-keeps f x end mark = same-if f (ends_by_release x) (f x) _ _ end (same-if f (is_gone x) (f x) _ _ refl mark)
 
+-- a release sets the released mark only if it ends no wait and the thread isn't gone
 release-released : (x : ThreadFacts) → (release_facts x).released ≡ left_by (not (ends_by_release x) && not (is_gone x)) false x.released
 release-released x = go (ends_by_release x) (is_gone x) where
   go : (e g : Bool) → (if e then ended satisfied x else (if g then x else (record x { released = true }))).released ≡ left_by (not e && not g) false x.released
@@ -247,17 +273,21 @@ release-released x = go (ends_by_release x) (is_gone x) where
   go false true = refl
   go false false = refl
 
+-- the expiry of a delay leaves a flag as it was, if ending a wait does
 expiry-keeps : (f : ThreadFacts → Bool) (from : ℕ) (x : ThreadFacts) → f (ended satisfied x) ≡ f x → f (expiry_facts from x) ≡ f x
 expiry-keeps f from x end = same-if f (ends_by_expiry from x) (f x) _ _ end refl
 
+-- an alert leaves a flag as it was, if ending a wait and setting an alert flag do
 alert-keeps : (f : ThreadFacts → Bool) (m : Mode) (x : ThreadFacts) → f (ended alerted x) ≡ f x → f (set_alerted m true x) ≡ f x → f (alert_facts m x) ≡ f x
 alert-keeps f m x end flag = same-if f (is_gone x) (f x) _ _ refl (same-if f (ends_by_alert m x) (f x) _ _ end flag)
 
+-- an alert test leaves a flag as it was, if clearing an alert flag and setting the user-pending mark do
 test-keeps : (f : ThreadFacts → Bool) (m : Mode) (x : ThreadFacts) → f (set_alerted m false x) ≡ f x → f (record x { user_pending = true }) ≡ f x →
     f (alert_tested m x) ≡ f x
 test-keeps f m x flag mark =
     same-if f (is_alerted m x) (f x) _ _ flag (same-if f (is_user m && has_user x.apcs) (f x) _ _ mark refl)
 
+-- an alert test sets the user-pending mark only in user mode, without an alert, where a user APC is pending
 test-user_pending : (m : Mode) (x : ThreadFacts) → (alert_tested m x).user_pending ≡ left_by
     (not (is_alerted m x) && (is_user m && has_user x.apcs)) false x.user_pending
 test-user_pending m x = go (is_alerted m x) (is_user m && has_user x.apcs) where
@@ -269,6 +299,7 @@ test-user_pending m x = go (is_alerted m x) (is_user m && has_user x.apcs) where
 
 -- ---- one call
 
+-- an act sets a mode's alert flag, clears it or leaves it, as the row of this flag says
 alerted-after : (m : Mode) (act : Act) (x : ThreadFacts) → is_alerted m (after act x) ≡ left_by (sets_alert m act x) (clears_alert m act x) (is_alerted m x)
 alerted-after KernelMode Resumes x = refl
 alerted-after UserMode Resumes x = refl
@@ -290,6 +321,7 @@ alerted-after UserMode Leaves x = refl
 alerted-after KernelMode Goes x = refl
 alerted-after UserMode Goes x = refl
 
+-- an act sets the user-pending mark, clears it or leaves it, as the row of this mark says
 user_pending-after : (act : Act) (x : ThreadFacts) → (after act x).user_pending ≡ left_by (sets_mark act x) (clears_mark act x) x.user_pending
 user_pending-after Resumes x = refl
 user_pending-after (GivesWay level) x = refl
@@ -304,6 +336,7 @@ user_pending-after (Removes a) x = refl
 user_pending-after Leaves x = refl
 user_pending-after Goes x = refl
 
+-- an act sets the released mark, clears it or leaves it, as the row of this mark says
 released-after : (act : Act) (x : ThreadFacts) → (after act x).released ≡ left_by (sets_released act x) (clears_released act x) x.released
 released-after Resumes x = refl
 released-after (GivesWay level) x = refl
@@ -318,6 +351,7 @@ released-after (Removes a) x = refl
 released-after Leaves x = refl
 released-after Goes x = refl
 
+-- an act sets the leaving mark, clears it or leaves it, as the row of this mark says
 leaving-after : (act : Act) (x : ThreadFacts) → (after act x).leaving ≡ left_by (sets_leaving act x) (clears_leaving act x) x.leaving
 leaving-after Resumes x = refl
 leaving-after (GivesWay level) x = refl
@@ -334,6 +368,7 @@ leaving-after Goes x = refl
 
 -- ---- whole runs
 
+-- a mode's alert flag is what the last act that sets or clears it left
 alerted-last : (m : Mode) (acts : List Act) → is_alerted m (facts_of acts) ≡ last_left (sets_alert m) (clears_alert m) acts
 alerted-last KernelMode [] = refl
 alerted-last UserMode [] = refl
@@ -341,24 +376,28 @@ alerted-last m (act ∷ past) =
     alerted-after m act (facts_of past) ∙ ap (λ (old : Bool). left_by (sets_alert m act (facts_of past)) (clears_alert m act (facts_of past)) old)
     (alerted-last m past)
 
+-- the user-pending mark is what the last act that sets or clears it left
 user_pending-last : (acts : List Act) → (facts_of acts).user_pending ≡ last_left sets_mark clears_mark acts
 user_pending-last [] = refl
 user_pending-last (act ∷ past) =
     user_pending-after act (facts_of past) ∙ ap (λ (old : Bool). left_by (sets_mark act (facts_of past)) (clears_mark act (facts_of past)) old)
     (user_pending-last past)
 
+-- the released mark is what the last act that sets or clears it left
 released-last : (acts : List Act) → (facts_of acts).released ≡ last_left sets_released clears_released acts
 released-last [] = refl
 released-last (act ∷ past) =
     released-after act (facts_of past) ∙ ap (λ (old : Bool). left_by (sets_released act (facts_of past)) (clears_released act (facts_of past)) old)
     (released-last past)
 
+-- the leaving mark is what the last act that sets or clears it left
 leaving-last : (acts : List Act) → (facts_of acts).leaving ≡ last_left sets_leaving clears_leaving acts
 leaving-last [] = refl
 leaving-last (act ∷ past) =
     leaving-after act (facts_of past) ∙ ap (λ (old : Bool). left_by (sets_leaving act (facts_of past)) (clears_leaving act (facts_of past)) old)
     (leaving-last past)
 
+-- each flag of a thread is what the last call that sets or clears it left
 pub flags-last : FactsAreLastLeft
 flags-last acts = record {
   alerted = λ m. alerted-last m acts;

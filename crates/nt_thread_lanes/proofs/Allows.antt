@@ -16,6 +16,7 @@ use Rattle.nt_states.specs.ThreadFits.{CanMake, CanTell, InThread, RunsHere, Wha
 use Rattle.nt_states.specs.ThreadLanes.{ThreadLanes, facts_in}
 use Rattle.nt_thread_lanes.proofs.Numbers.{owner_named}
 
+-- an optional thread is at most one thread
 same_thread : (t u : ThreadNo) (o : Option ThreadNo) → o ≡ Some t → o ≡ Some u → t ≡ u
 same_thread t u o h k = cc
 
@@ -23,6 +24,7 @@ same_thread t u o h k = cc
 in_thread : (x : ThreadLanes) (st : Stand) (P : ThreadFacts → Type 0) (t : ThreadNo) → InThread x st P → st.thread ≡ Some t → P (facts_in x t)
 in_thread x st P t h runs = subst (λ (o : Option ThreadNo). IsSomeAnd o (λ u. P (facts_in x u))) runs h
 
+-- the thread that makes an event that fits may make it by its facts
 pub can_make : (x : ThreadLanes) (st : Stand) (w : What) (t : ThreadNo) → WhatFits x st w → thread_field w st.thread ≡ Some t → CanMake st w (facts_in x t)
 can_make x st (Switch u status) t h by =
     let at : u ≡ t = same_thread u t (Some u) refl by in
@@ -43,11 +45,13 @@ pub record MakesHere (x : ThreadLanes) (st : Stand) (t : ThreadNo) : Type 0 wher
   pub named : IsTrue (has_thread x.script t)
   pub own : cpu_of x.script t ≡ st.cpu
 
+-- the thread that runs at a stand is one of the script's and of the processor
 runs_here : (x : ThreadLanes) (st : Stand) (t : ThreadNo) → IfSome st.thread (RunsHere x st) → st.thread ≡ Some t → MakesHere x st t
 runs_here x st t h by =
     let here : RunsHere x st t = subst (λ (o : Option ThreadNo). IfSome o (RunsHere x st)) by h in
     record { named = lt-ltb t.0 (length x.script.threads) here.named; own = here.own }
 
+-- the thread that makes an event that fits is one of the script's and of the event's processor
 pub makes_here : (x : ThreadLanes) (st : Stand) (w : What) (t : ThreadNo) → IfSome st.thread (RunsHere x st) → WhatFits x st w → thread_field w st.thread
     ≡ Some t → MakesHere x st t
 makes_here x st (Switch u status) t r h by =
@@ -61,9 +65,11 @@ pub record NamesOne (x : ThreadLanes) (w : What) (t : ThreadNo) : Type 0 where
   pub named : IsTrue (has_thread x.script t)
   pub may : CanTell x.script w (facts_in x t)
 
+-- what an event asks of the thread that it names it asks of an equal one
 names_same : (x : ThreadLanes) (w : What) (u t : ThreadNo) → NamesOne x w u → Some u ≡ Some t → NamesOne x w t
 names_same x w u t h e = subst (λ (v : ThreadNo). NamesOne x w v) (same_thread u t (Some u) refl e) h
 
+-- the thread that an event that fits names is one of the script's, and the reply is as its facts tell
 pub names_one : (x : ThreadLanes) (st : Stand) (w : What) (t : ThreadNo) → IsTrue (fits x.script) → WhatFits x st w → named_thread x.script w ≡ Some t →
     NamesOne x w t
 names_one x st (Call f (Release u) y) t s h e =

@@ -43,19 +43,23 @@ told_queue s n (Call f (InsertApc a) Yes) q = with_apc (new_pick s a n) q
 told_queue s n (Call f (RemoveApc a) Yes) q = without_apc a q
 told_queue s n w q = q
 
+-- choosing between two states of a thread with the same APC queue gives that queue
 queue_if : (b : Bool) (x y : ThreadFacts) (q : ApcQueues) → x.apcs ≡ q → y.apcs ≡ q → (if b then x else y).apcs ≡ q
 queue_if true x y q h k = h
 queue_if false x y q h k = k
 
+-- setting or clearing an alert of a thread leaves its APC queue as it was
 alerted_queue : (m : Mode) (b : Bool) (x : ThreadFacts) → (set_alerted m b x).apcs ≡ x.apcs
 alerted_queue KernelMode b x = refl
 alerted_queue UserMode b x = refl
 
+-- testing a thread's alert leaves its APC queue as it was
 tested_queue : (m : Mode) (x : ThreadFacts) → (alert_tested m x).apcs ≡ x.apcs
 tested_queue m x =
     queue_if (is_alerted m x) (set_alerted m false x) _ x.apcs (alerted_queue m false x)
     (queue_if (is_user m && has_user x.apcs) (record x { user_pending = true }) x x.apcs refl refl)
 
+-- the answer of a wait leaves the thread's APC queue as it was
 answered_queue : (st : ℕ) (m : Mode) (a delay : Bool) (x : ThreadFacts) → (answered st m a delay x).apcs ≡ x.apcs
 answered_queue st m a delay x =
     queue_if (st == satisfied) (if delay then x else record x { released = false }) _ x.apcs
@@ -63,24 +67,29 @@ answered_queue st m a delay x =
     (queue_if (st == alerted) (alert_taken m x) _ x.apcs (alerted_queue (if is_alerted m x then m else KernelMode) false x)
     (queue_if ((st == user_apc) && a) (record x { user_pending = true }) x x.apcs refl refl))
 
+-- a wait that was made leaves the thread's APC queue as it was
 waited_queue : (n : ℕ) (r : Regions) (level : ℕ) (m : Mode) (a delay : Bool) (y : Reply) (x : ThreadFacts) → (waited n r level m a delay y x).apcs ≡ x.apcs
 waited_queue n r level m a delay (Status st) x = answered_queue st m a delay x
 waited_queue n r level m a delay Blocked x = refl
 waited_queue n r level m a delay y x = refl
 
+-- a wait that is made again leaves the thread's APC queue as it was
 again_queue : (n : ℕ) (r : Regions) (level : ℕ) (o : Option Again) (y : Reply) (x : ThreadFacts) → (waited_again n r level o y x).apcs ≡ x.apcs
 again_queue n r level None y x = refl
 again_queue n r level (Some w) y x = waited_queue n r level w.mode w.alertable (is_some w.due) y x
 
+-- an APC that is taken is gone from the thread's queue
 taken_queue : (k : ApcKind) (a : ApcNo) (x : ThreadFacts) → (apc_taken k a x).apcs ≡ without_apc a x.apcs
 taken_queue UserApc a x = refl
 taken_queue k a x = refl
 
+-- the end of a frame leaves of the thread's APC queue what the end of its body leaves
 ended_body : (b : Option Body) (x : ThreadFacts) → (frame_ended b x).apcs ≡ ended_queue b x.apcs
 ended_body (Some (OnBase t)) x = refl
 ended_body (Some (OnApc a UserApc)) x = tested_queue UserMode x
 ended_body b x = refl
 
+-- the APC queue of the thread that makes an event is what the event leaves of that queue alone
 pub made_changes : (s : Script) (n : ℕ) (st : Stand) (w : What) (x : ThreadFacts) → (made_facts s n st w x).apcs ≡ made_queue st w x.apcs
 made_changes s n st (Call f (StartWait m a) y) x = waited_queue n st.regions st.level m a false y x
 made_changes s n st (Call f (Delay m a units) y) x = waited_queue n st.regions st.level m a true y x
@@ -93,6 +102,7 @@ made_changes s n st (Flush a from) x = refl
 made_changes s n st (Gone t) x = refl
 made_changes s n st w x = refl
 
+-- inserting an APC into a thread puts it into the queue and changes nothing else of the queue
 inserted_queue : (pick : Pick) (x : ThreadFacts) → (insert_facts pick x).apcs ≡ with_apc pick x.apcs
 inserted_queue pick x =
     let y : ThreadFacts = record x { apcs = with_apc pick x.apcs } in
@@ -100,6 +110,7 @@ inserted_queue pick x =
     (with_apc pick x.apcs) (queue_if (is_kernel_kind pick.kind) (ended kernel_apc y) (record (ended user_apc y) { user_pending = true })
     (with_apc pick x.apcs) refl refl) refl
 
+-- the APC queue of the thread that an event names is what the event leaves of that queue alone
 pub told_changes : (s : Script) (n : ℕ) (w : What) (x : ThreadFacts) → (told_facts s n w x).apcs ≡ told_queue s n w x.apcs
 told_changes s n (Call f (Release u) y) x =
     queue_if (ends_by_release x) (ended satisfied x) _ x.apcs refl (queue_if (is_gone x) x (record x { released = true }) x.apcs refl refl)

@@ -26,6 +26,7 @@ use Rattle.nt_states.specs.ThreadLanes.{ThreadLanes, facts_in, left}
 
 -- ---- tables in which one place changes, or none
 
+-- reading states of which one is set gives the set one at its place and the old ones elsewhere
 set_reads : (xs : List ThreadFacts) (t i : ℕ) (v : ThreadFacts) (f : ℕ → ThreadFacts) → i < length xs → (eqb t i ≡ true → f i ≡ v) →
     (eqb t i ≡ false → f i ≡ get_or xs i start_facts) → (b : Bool) → eqb t i ≡ b → f i ≡ get_or (set xs t v) i start_facts
 set_reads xs t i v f h same other true e =
@@ -42,13 +43,16 @@ table_set xs n t v f l same other =
 
 -- ---- the thread that the event names
 
+-- threads that are equal as options are equal
 some_same : (u t : ThreadNo) → Some u ≡ Some t → u ≡ t
 some_same u t h = cc
 
+-- a choice on two tests takes the second branch if the second test fails
 apart : (b c : Bool) (x z : ThreadFacts) → c ≡ false → (if b && c then z else x) ≡ x
 apart true c x z h = ap (λ (d : Bool). if d then z else x) h
 apart false c x z h = refl
 
+-- a choice on two tests takes the first branch if both hold
 at_last : (b c : Bool) (x z : ThreadFacts) → b ≡ true → c ≡ true → (if b && c then z else x) ≡ z
 at_last b c x z h k = ap (λ (d : Bool). if d && c then z else x) h ∙ ap (λ (d : Bool). if d then z else x) k
 
@@ -56,6 +60,7 @@ at_last b c x z h k = ap (λ (d : Bool). if d && c then z else x) h ∙ ap (λ (
 tested : (u t : ThreadNo) (k : ℕ) (b : Bool) → Some u ≡ Some t → (t.0 == k) ≡ b → (u.0 == k) ≡ b
 tested u t k b h e = subst (λ (v : ThreadNo). (v.0 == k) ≡ b) (sym (some_same u t h)) e
 
+-- an event that names no thread tells no thread anything
 named_none : (s : Script) (u : ThreadNo) (n : ℕ) (w : What) (x : ThreadFacts) → named_thread s w ≡ None → named_facts s u n w x ≡ x
 named_none s u n (Call f (Release v) y) x h = cc
 named_none s u n (Call f (Alert v m) y) x h = cc
@@ -64,6 +69,7 @@ named_none s u n (Call f (RemoveApc a) y) x h = cc
 named_none s u n (Expire (OfDelay v) from) x h = cc
 named_none s u n w x h = refl
 
+-- an event that names a thread tells no other thread anything
 named_other : (s : Script) (t : ThreadNo) (k n : ℕ) (w : What) (x : ThreadFacts) → named_thread s w ≡ Some t → (t.0 == k) ≡ false →
     named_facts s (thread k) n w x ≡ x
 named_other s t k n (Call f (Release v) y) x h e = apart (is_answer y) (v.0 == k) x (release_facts x) (tested v t k false h e)
@@ -76,10 +82,12 @@ named_other s t k n (Expire (OfDelay v) from) x h e =
     ap (λ (d : Bool). if d then expiry_facts from x else x) (tested v t k false h e)
 named_other s t k n w x h e = refl
 
+-- the reply to a test is an answer
 answers : (b : Bool) (y : Reply) → y ≡ yes_if b → is_answer y ≡ true
 answers true y h = ap is_answer h
 answers false y h = ap is_answer h
 
+-- an event that names a thread, and may, leaves that thread as it tells it
 named_told : (s : Script) (t : ThreadNo) (k n : ℕ) (w : What) (x : ThreadFacts) → named_thread s w ≡ Some t → (t.0 == k) ≡ true → CanTell s w x →
     named_facts s (thread k) n w x ≡ told_facts s n w x
 named_told s t k n (Call f (Release v) y) x h e may =
@@ -103,6 +111,7 @@ made_same s t n st (Call f (RemoveApc a) y) x h = refl
 made_same s t n st (Expire (OfDelay v) from) x h = refl
 made_same s t n st w x h = cc
 
+-- a choice between a state and one that is equal to it is that state
 either_way : (b : Bool) (x y : ThreadFacts) → y ≡ x → (if b then y else x) ≡ x
 either_way true x y h = h
 either_way false x y h = refl

@@ -15,6 +15,7 @@ use Rattle.nt_event.specs.Numbers.{routine, thread}
 use Rattle.nt_event.proofs.Options.{both}
 use Rattle.nt_states.specs.ThreadLanes.{ThreadLanes}
 
+-- a script that fits has at most 64 threads and at most 256 APC objects
 limits : (s : Script) → IsTrue (fits s) → (length s.threads ≤ 64) × (length s.apcs ≤ 256)
 limits s h =
     let routines = both _ _ h in
@@ -33,12 +34,15 @@ limits s h =
     let thread_count = both _ _ timer_count.0 in
     (leb-true (length s.threads) 64 thread_count.1, leb-true (length s.apcs) 256 apc_count.1)
 
+-- a script that fits has at most 64 threads
 pub few_threads : (s : Script) → IsTrue (fits s) → length s.threads ≤ 64
 few_threads s h = (limits s h).0
 
+-- a script that fits has at most 256 APC objects
 pub few_apcs : (s : Script) → IsTrue (fits s) → length s.apcs ≤ 256
 few_apcs s h = (limits s h).1
 
+-- the APC declaration that is read where there is none
 no_decl : ApcDecl
 no_decl = record { kind = Special; thread = thread 0; kernel = routine 0; normal = None; rundown = None }
 

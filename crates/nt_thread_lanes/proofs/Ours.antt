@@ -27,22 +27,27 @@ use Rattle.nt_states.specs.ThreadLanes.{ThreadLanes, facts_in}
 use Rattle.nt_thread_lanes.specs.Sound.{AreOurs, IsOurs, IsSound}
 use Rattle.nt_thread_lanes.proofs.Changed.{ended_queue, made_changes, made_queue, told_changes, told_queue}
 
+-- equal options of threads hold equal threads
 some_thread : (u t : ThreadNo) → Some u ≡ Some t → u ≡ t
 some_thread u t h = cc
 
+-- removing an APC keeps the queue's APCs those of the thread
 ours_without : (s : Script) (t : ThreadNo) (a : ApcNo) (q : ApcQueues) → AreOurs s t q → AreOurs s t (without_apc a q)
 ours_without s t a q h = All-filter (λ x. not (is_of_apc a x)) (IsOurs s t) q.pending h
 
+-- the end of a frame keeps the queue's APCs those of the thread
 ours_ended : (s : Script) (t : ThreadNo) (b : Option Body) (q : ApcQueues) → AreOurs s t q → AreOurs s t (ended_queue b q)
 ours_ended s t (Some (OnBase u)) q h = h
 ours_ended s t b q h = h
 
+-- an event made by a thread keeps its queue's APCs its own
 ours_made : (s : Script) (t : ThreadNo) (st : Stand) (w : What) (q : ApcQueues) → AreOurs s t q → AreOurs s t (made_queue st w q)
 ours_made s t st (Begin (Apc a) from) q h = ours_without s t a q h
 ours_made s t st (Flush a from) q h = ours_without s t a q h
 ours_made s t st (End f) q h = ours_ended s t st.body q h
 ours_made s t st w q h = h
 
+-- an event that names a thread, and may, keeps that thread's queue's APCs its own
 ours_told : (s : Script) (t : ThreadNo) (n : ℕ) (w : What) (z : ThreadFacts) (q : ApcQueues) → named_thread s w ≡ Some t → CanTell s w z → AreOurs s t q →
     AreOurs s t (told_queue s n w q)
 ours_told s t n (Call f (InsertApc a) Yes) z q e may h =
@@ -60,9 +65,11 @@ set_facts x t u y true h e =
 set_facts x t u y false h e =
     get_or-set_other x.facts t.0 u.0 y start_facts (λ k. eqb-false t.0 u.0 e (sym k))
 
+-- threads with equal numbers are the same
 same_number : (t u : ThreadNo) → t.0 ≡ u.0 → t ≡ u
 same_number t u h = λ i. record { 0 = h i }
 
+-- the states stay sound if one thread is set with a queue of its own APCs
 sound_set : (x : ThreadLanes) (t : ThreadNo) (y : ThreadFacts) → IsSound x → t.0 < length x.facts → AreOurs x.script t y.apcs →
     IsSound (record x { facts = set x.facts t.0 y })
 sound_set x t y h b k = record {
@@ -92,6 +99,7 @@ sound_told x t n w h b e may =
     (subst (λ (q : ApcQueues). AreOurs x.script t q) (sym (told_changes x.script n w (facts_in x t)))
     (ours_told x.script t n w (facts_in x t) (facts_in x t).apcs e may (h.picks t)))
 
+-- in sound states each pending APC has the kind that the script gives its object
 pub kinds_hold : (x : ThreadLanes) → IsSound x → All (λ y. All (λ pick. pick.kind ≡ kind_of x.script pick.apc) y.apcs.pending) x.facts
 kinds_hold x h =
     All-from_get_or (λ y. All (λ pick. pick.kind ≡ kind_of x.script pick.apc) y.apcs.pending) x.facts start_facts
@@ -100,19 +108,23 @@ kinds_hold x h =
 
 -- ---- new threads have no APCs
 
+-- a list of start states is the table of start states from any number on
 starts_from : (k n : ℕ) → replicate n start_facts ≡ table_from k n (λ t. start_facts)
 unfolding table_from
 starts_from k zero = refl
 starts_from k (suc n) = ap (λ (xs : List ThreadFacts). start_facts ∷ xs) (starts_from (suc k) n)
 
+-- a list of start facts repeated is the table of start facts
 pub starts : (n : ℕ) → replicate n start_facts ≡ table n (λ t. start_facts)
 starts n = starts_from 0 n
 
+-- at each place of repeated start facts, and beyond them, stand the start facts
 pub start_at : (n i : ℕ) → get_or (replicate n start_facts) i start_facts ≡ start_facts
 start_at zero i = refl
 start_at (suc n) zero = refl
 start_at (suc n) (suc i) = start_at n i
 
+-- the start facts of a script that fits are sound
 pub sound_start : (s : Script) (n : ℕ) → IsTrue (fits s) → n ≡ length s.threads → IsSound (record { script = s; facts = replicate n start_facts })
 sound_start s n f k = record {
   script = f;

@@ -21,6 +21,7 @@ others_go_on false false true f = refl
 others_go_on false false false true = refl
 others_go_on false false false false = refl
 
+-- taking a reply that a delay is over as such again changes nothing
 told_over : (kernel reached : Bool) (y : Reply) → is_over y ≡ false →
     (if kernel then Status kernel_apc else (if is_over (if kernel then Status kernel_apc else (if reached then Status satisfied else y)) then Status satisfied
     else y)) ≡ (if kernel then Status kernel_apc else (if reached then Status satisfied else y))
@@ -28,12 +29,14 @@ told_over true reached y h = refl
 told_over false true y h = refl
 told_over false false y h = ap (λ (b : Bool). if b then Status satisfied else y) h
 
+-- a delay's reply stays the same if its due time counts as reached just where the reply says that it is over
 pub over_reply : (x : ThreadFacts) (r : Regions) (level : ℕ) (m : Mode) (a reached : Bool) →
     wait_reply x r level m a (Some (is_over (wait_reply x r level m a (Some reached)))) ≡ wait_reply x r level m a (Some reached)
 over_reply x r level m a reached =
     told_over (is_some (deliverable x.apcs r level)) reached _
     (others_go_on (a && is_alerted m x) (a && (is_user m && has_user x.apcs)) (a && x.alerted_kernel) (not a && (is_user m && x.user_pending)))
 
+-- a wait reply is the same if its due time is read off that reply
 over_if_reply : (x : ThreadFacts) (r : Regions) (level : ℕ) (m : Mode) (a : Bool) (reached : Option Bool) (delay : Bool) → is_some reached ≡ delay →
     wait_reply x r level m a (over_if delay (wait_reply x r level m a reached)) ≡ wait_reply x r level m a reached
 over_if_reply x r level m a None true h = cc
@@ -41,6 +44,7 @@ over_if_reply x r level m a None false h = refl
 over_if_reply x r level m a (Some b) true h = over_reply x r level m a b
 over_if_reply x r level m a (Some b) false h = cc
 
+-- a delay tells whether its time was reached, and another wait does not
 is_some_over : (delay : Bool) (y : Reply) → is_some (over_if delay y) ≡ delay
 is_some_over true y = refl
 is_some_over false y = refl
@@ -54,6 +58,7 @@ delay_left x z n r level m a reached y w h k left =
     ∙ (over_reply x r level m a reached ∙ sym h) in
     left ∙ ap (λ (v : Reply). waited n r level m a true v x) (k ∙ told)
 
+-- a wait made again leaves the same state if its due time is read off its reply
 again_left : (x z : ThreadFacts) (n : ℕ) (r : Regions) (level : ℕ) (wait : Again) (reached : Option Bool) (y w : Reply) → is_some reached ≡ is_some wait.due →
     y ≡ wait_reply x r level wait.mode wait.alertable reached → w ≡ wait_reply x r level wait.mode wait.alertable (over_if (is_some wait.due) y) → z
     ≡ waited n r level wait.mode wait.alertable (is_some (over_if (is_some wait.due) y)) w x → z
@@ -65,6 +70,7 @@ again_left x z n r level wait reached y w kind h k left =
     left ∙ (ap (λ (b : Bool). waited n r level wait.mode wait.alertable b w x) (is_some_over (is_some wait.due) y)
     ∙ ap (λ (v : Reply). waited n r level wait.mode wait.alertable (is_some wait.due) v x) (k ∙ told))
 
+-- an optional wait to be made again is at most one wait
 kept_wait : (v w : Again) (o : Option Again) → o ≡ Some v → o ≡ Some w → v ≡ w
 kept_wait v w o h k = cc
 

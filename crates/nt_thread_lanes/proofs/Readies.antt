@@ -31,6 +31,7 @@ answers_it p n x xs l last first h k =
     option_or (find (is_after last) ts) (option_or first (head_of ts))) h
     ∙ ap (λ (b : Bool). option_or (if b then Some (thread n) else find (is_after last) (ready_from p (suc n) xs l)) (option_or first (Some (thread n)))) k
 
+-- an option after the first ready thread found is never looked at
 or_first : (o first : Option ThreadNo) (t : ThreadNo) (r : Option ThreadNo) → option_or o (option_or first (Some t))
     ≡ option_or o (option_or (option_or first (Some t)) r)
 or_first o None t r = refl
@@ -46,6 +47,7 @@ keeps_it p n x xs l last first h k =
     ∙ (ap (λ (b : Bool). option_or (if b then Some (thread n) else find (is_after last) (ready_from p (suc n) xs l)) (option_or first (Some (thread n)))) k
     ∙ or_first (find (is_after last) (ready_from p (suc n) xs l)) first (thread n) (head_of (ready_from p (suc n) xs l)))
 
+-- when no thread is left to pass, the answer is the first ready one found so far
 pub ends_with : (p : CpuNo) (n : ℕ) (l : Lanes) (last first : Option ThreadNo) → next_from p n [] l last first ≡ first
 ends_with p n l last None = refl
 ends_with p n l last (Some t) = refl

@@ -24,11 +24,13 @@ pub record Holds (x : ThreadLanes) (marks : List Bool) : Type 0 where
   pub sound : IsSound x
   pub marked : AreMarked marks x
 
+-- reading a list within its length does not depend on the default
 at_default : {A : Type 0} (xs : List A) (i : ℕ) (d e : A) → i < length xs → get_or xs i d ≡ get_or xs i e
 at_default [] i d e h = absurd (omega arith)
 at_default (x ∷ xs) zero d e h = refl
 at_default (x ∷ xs) (suc i) d e h = at_default xs i d e (omega arith)
 
+-- a thread of the script has a place in the list of facts, if the states are sound
 pub bound : (x y : ThreadLanes) (t : ThreadNo) → x ≡ y → IsSound x → IsTrue (has_thread y.script t) → t.0 < length x.facts
 bound x y t e h named =
     let here : has_thread x.script t ≡ true = subst (λ (z : ThreadLanes). has_thread z.script t ≡ true) (sym e) named in
@@ -39,6 +41,7 @@ bound x y t e h named =
 read : (x : ThreadLanes) (t : ThreadNo) (old : ThreadFacts) → t.0 < length x.facts → old ≡ get_or x.facts t.0 old → old ≡ facts_in x t
 read x t old h e = e ∙ at_default x.facts t.0 old start_facts h
 
+-- states and marks hold after the thread that makes an event gets the facts that the event leaves
 pub holds_made : (x y : ThreadLanes) (t : ThreadNo) (n : ℕ) (st : Stand) (w : What) (old new : ThreadFacts) (marks after : List Bool) → x ≡ y → Holds x marks →
     IsTrue (has_thread y.script t) → named_thread y.script w ≡ None → CanMake st w (facts_in y t) → old ≡ get_or x.facts t.0 old → new
     ≡ made_facts x.script n st w old → after ≡ marks_after w marks → Holds (record x { facts = set x.facts t.0 new }) after
@@ -52,6 +55,7 @@ holds_made x y t n st w old new marks after e h named none may at left marked =
     subst (λ (z : ThreadFacts). Holds (record x { facts = set x.facts t.0 z }) after) change
     (subst (λ (m : List Bool). Holds (record x { facts = set x.facts t.0 (made_facts x.script n st w (facts_in x t)) }) m) (sym marked) whole)
 
+-- states and marks hold after the thread that an event names gets the facts that the event leaves
 pub holds_told : (x y : ThreadLanes) (t : ThreadNo) (n : ℕ) (w : What) (old new : ThreadFacts) (marks after : List Bool) → x ≡ y → Holds x marks →
     IsTrue (has_thread y.script t) → named_thread y.script w ≡ Some t → CanTell y.script w (facts_in y t) → old ≡ get_or x.facts t.0 old → new
     ≡ told_facts x.script n w old → after ≡ marks_after w marks → Holds (record x { facts = set x.facts t.0 new }) after
@@ -65,6 +69,7 @@ holds_told x y t n w old new marks after e h named by may at left marked =
     subst (λ (z : ThreadFacts). Holds (record x { facts = set x.facts t.0 z }) after) change
     (subst (λ (m : List Bool). Holds (record x { facts = set x.facts t.0 (told_facts x.script n w (facts_in x t)) }) m) (sym marked) whole)
 
+-- the start facts and empty marks of a script that fits hold
 pub holds_start : (s : Script) (n k : ℕ) (xs : List ThreadFacts) (marks : List Bool) → IsTrue (fits s) → xs ≡ replicate n start_facts → n ≡ length s.threads →
     marks ≡ replicate k false → k ≡ length s.apcs → Holds (record { script = s; facts = xs }) marks
 holds_start s n k xs marks f states count no_marks apcs =

@@ -15,10 +15,12 @@ Among k (x ∷ xs) = (k ≡ x) ⊎ Among k xs
 
 -- ---- what a reduce and a filter give
 
+-- a choice between two keys is one of the two
 either_one : (t : Bool) (a b : SetKey) → (cond t b a ≡ a) ⊎ (cond t b a ≡ b)
 either_one true a b = inr refl
 either_one false a b = inl refl
 
+-- the earliest of a list of keys, starting from one, is that one or in the list
 fold_among : (b : SetKey) (ks : List SetKey) → Among (fold earlier b ks) (b ∷ ks)
 fold_among b [] = inl refl
 fold_among b (k ∷ ks) = go (either_one (is_earlier k b) b k) (fold_among (earlier b k) ks)
@@ -28,11 +30,13 @@ fold_among b (k ∷ ks) = go (either_one (is_earlier k b) b k) (fold_among (earl
     go (inr e) (inl h) = inr (inl (h ∙ e))
     go e (inr h) = inr (inr h)
 
+-- the earliest key of a list of keys is in that list
 pub reduce_among : (ks : List SetKey) (k : SetKey) → reduce earlier ks ≡ Some k → Among k ks
 reduce_among [] k h = absurd (cc)
 reduce_among (x ∷ xs) k h =
     let e : fold earlier x xs ≡ k = cc in subst (λ (z : SetKey). Among z (x ∷ xs)) e (fold_among x xs)
 
+-- case: one key in front; a key that a filter keeps is in the list and passes the test
 passed : (p : SetKey → Bool) (k x : SetKey) (xs : List SetKey) → (Among k (filter p xs) → Among k xs × (p k ≡ true)) → Among k (filter p (x ∷ xs)) →
     (t : Bool) → p x ≡ t → Among k (x ∷ xs) × (p k ≡ true)
 passed p k x xs rest at true h = go (rw h at at)
@@ -42,10 +46,12 @@ passed p k x xs rest at true h = go (rw h at at)
     go (inr later) = let r = rest later in (inr r.0, r.1)
 passed p k x xs rest at false h = let r = rest (rw h at at) in (inr r.0, r.1)
 
+-- a key that a filter keeps is in the list and passes the filter's test
 pub filter_among : (p : SetKey → Bool) (k : SetKey) (xs : List SetKey) → Among k (filter p xs) → Among k xs × (p k ≡ true)
 filter_among p k [] at = absurd at
 filter_among p k (x ∷ xs) at = passed p k x xs (filter_among p k xs) at (p x) refl
 
+-- a key in two lists appended is in one of them
 append_among : (k : SetKey) (xs ys : List SetKey) → Among k (xs ++ ys) → Among k xs ⊎ Among k ys
 append_among k [] ys at = inr at
 append_among k (x ∷ xs) ys (inl e) = inl (inl e)
@@ -60,11 +66,13 @@ pub record IsPlaced (key : ℕ → TimerKey) (n : ℕ) (xs : List (Option Settin
   pub named : k.key ≡ key (n + place)
   pub setting : setting_in xs place ≡ Some k.setting
 
+-- a key placed by the rest of a table is placed by the table, one place later
 later : (key : ℕ → TimerKey) (n : ℕ) (x : Option Setting) (xs : List (Option Setting)) (k : SetKey) → IsPlaced key (suc n) xs k → IsPlaced key n (x ∷ xs) k
 later key n x xs k h =
     let e : suc n + h.place ≡ n + suc h.place = omega arith in
     record { place = suc h.place; named = h.named ∙ ap key e; setting = h.setting }
 
+-- a key that is listed from a table of settings has its setting in the table at the place that names it
 pub keyed_placed : (key : ℕ → TimerKey) (n : ℕ) (xs : List (Option Setting)) (k : SetKey) → Among k (keyed key n xs) → IsPlaced key n xs k
 keyed_placed key n [] k at = absurd at
 keyed_placed key n (None ∷ xs) k at = later key n None xs k (keyed_placed key (suc n) xs k at)
@@ -91,12 +99,14 @@ first_due_among x k h =
 
 -- ---- what expires
 
+-- the key of the first due entry is the key of the first due setting
 first_key : (x : Timers) (key : TimerKey) (o : Option SetKey) → first_due x ≡ o →
     option_map (λ (e : TimerKey × ℕ). e.0) (option_map (λ (k : SetKey). (k.key, k.setting.number)) o) ≡ Some key →
     (k : SetKey) × (first_due x ≡ Some k) × (k.key ≡ key)
 first_key x key None h e = absurd (cc)
 first_key x key (Some k) h e = (k, h, (let same : k.key ≡ key = cc in same))
 
+-- if a due key is answered, it is the first due key, and is set as that says
 pub due_setting : (x : Timers) (key : TimerKey) → option_map (λ (e : TimerKey × ℕ). e.0) (due_entry x) ≡ Some key →
     (k : SetKey) × (first_due x ≡ Some k) × (k.key ≡ key) × (setting_at key x ≡ Some k.setting)
 due_setting x key h =

@@ -82,6 +82,7 @@ delay_expired s st e x n from t size h =
 
 -- ---- the events
 
+-- if an event changes the setting of one timer alone, it leaves the timers with this one written
 timer_set : (s : Script) (e : Event) (x : Timers) (n : ℕ) (t : TimerNo) (v : Option Setting) (w : What) → IsSized s x → e.what ≡ w →
     ((i : ℕ) → eqb t.0 i ≡ true → timer_after (timer i) n x.now w (setting_in x.timers i) ≡ v) →
     ((i : ℕ) → eqb t.0 i ≡ false → timer_after (timer i) n x.now w (setting_in x.timers i) ≡ setting_in x.timers i) →
@@ -90,9 +91,11 @@ timer_set s e x n t v w size h same other =
     table_set x.timers (length s.timers) t.0 v None (λ i. timer_after (timer i) n x.now e.what (setting_in x.timers i)) size.timers (λ i k. rw h (same i k))
     (λ i k. rw h (other i k))
 
+-- an event whose kind leaves the time as it was leaves the time as it was
 time_stays : (e : Event) (w : What) (now : ℕ) → e.what ≡ w → time_after w now ≡ now → time_after e.what now ≡ now
 time_stays e w now h k = rw h k
 
+-- setting a timer with an answer leaves this timer set for its due time and period
 set_event : (s : Script) (st : Stand) (e : Event) (x : Timers) (n f : ℕ) (t : TimerNo) (due period : ℕ) (y : Reply) → IsSized s x →
     e.what ≡ Call f (SetTimer t due period) y → is_answer y ≡ true → timers_after s n st e x ≡ with_setting (OfTimer t) (due_at (x.now + due) n period) x
 set_event s st e x n f t due period y size h answer =
@@ -101,6 +104,7 @@ set_event s st e x n f t due period y size h answer =
     let delays = delays_stay s st e x n w size h (λ u old. refl) (λ now again old. refl) in
     λ i. record { now = time_stays e w x.now h refl i; timers = timers i; delays = delays i }
 
+-- cancelling a timer that is set leaves this timer without a setting
 cancel_event : (s : Script) (st : Stand) (e : Event) (x : Timers) (n f : ℕ) (t : TimerNo) → IsSized s x → e.what ≡ Call f (CancelTimer t) Yes →
     timers_after s n st e x ≡ with_setting (OfTimer t) None x
 cancel_event s st e x n f t size h =
@@ -109,6 +113,7 @@ cancel_event s st e x n f t size h =
     let delays = delays_stay s st e x n w size h (λ u old. refl) (λ now again old. refl) in
     λ i. record { now = time_stays e w x.now h refl i; timers = timers i; delays = delays i }
 
+-- an advance of the clock leaves the time later by these units and the settings as they were
 clock_event : (s : Script) (st : Stand) (e : Event) (x : Timers) (n f units : ℕ) → IsSized s x → e.what ≡ Call f (Clock units) Done →
     timers_after s n st e x ≡ record x { now = x.now + units }
 clock_event s st e x n f units size h =
@@ -118,6 +123,7 @@ clock_event s st e x n f units size h =
     let delays = delays_stay s st e x n w size h (λ u old. refl) (λ now again old. refl) in
     λ i. record { now = now i; timers = timers i; delays = delays i }
 
+-- the expiry of a key leaves what the expiry call leaves
 expire_event : (s : Script) (st : Stand) (e : Event) (x : Timers) (n from : ℕ) (key : TimerKey) → IsSized s x → e.what ≡ Expire key from →
     timers_after s n st e x ≡ expired key n x
 expire_event s st e x n from (OfTimer t) size h =
@@ -132,6 +138,7 @@ expire_event s st e x n from (OfDelay t) size h =
     let delays = delay_expired s st e x n from t size h in
     λ i. record { now = time_stays e w x.now h refl i; timers = timers i; delays = delays i }
 
+-- a delay that blocks leaves the thread's delay set for its due time, without a period
 delay_event : (s : Script) (st : Stand) (e : Event) (x : Timers) (n f : ℕ) (t : ThreadNo) (m : Mode) (alertable : Bool) (units : ℕ) → IsSized s x →
     IsMadeBy s t e → e.what ≡ Call f (Delay m alertable units) Blocked → timers_after s n st e x ≡ with_setting (OfDelay t) (due_at (x.now + units) n 0) x
 delay_event s st e x n f t m alertable units size made h =
@@ -140,6 +147,7 @@ delay_event s st e x n f t m alertable units size made h =
     let delays = delays_set s st e x n (x.now + units) t w size made h (λ u old. refl) (λ old. refl) in
     λ i. record { now = time_stays e w x.now h refl i; timers = timers i; delays = delays i }
 
+-- a delay taken up again that blocks leaves the thread's delay set for its old due time
 rewait_event : (s : Script) (st : Stand) (e : Event) (x : Timers) (n f : ℕ) (t : ThreadNo) (again : Again) (due : ℕ) → IsSized s x → IsMadeBy s t e →
     e.what ≡ Rewait f Blocked → st.again ≡ Some again → again.due ≡ Some due → timers_after s n st e x ≡ with_setting (OfDelay t) (due_at due n 0) x
 rewait_event s st e x n f t again due size made h kept at =
@@ -148,11 +156,13 @@ rewait_event s st e x n f t again due size made h kept at =
     let delays = delays_set s st e x n due t w size made h (λ u old. refl) (λ old. rw (kept, at)) in
     λ i. record { now = time_stays e w x.now h refl i; timers = timers i; delays = delays i }
 
+-- a table with no setting at each place is the list of that many absent settings
 nothing_from : (k n : ℕ) → table_from {A = Option Setting} k n (λ i. None) ≡ replicate n None
 unfolding table_from
 nothing_from k zero = refl
 nothing_from k (suc n) = ap (λ (xs : List (Option Setting)). None ∷ xs) (nothing_from (suc k) n)
 
+-- the timers start as new, and each event that sets, cancels, expires or advances leaves what its call leaves
 pub timer_calls_are_events : TimerCallsAreEvents
 timer_calls_are_events =
     record {

@@ -18,9 +18,11 @@ use Rattle.std.proofs.lemmas.List.Elements.{filter-append}
 abbrev due_in : ℕ → List SetKey → ℕ
 due_in now ks = length (filter (is_due_key now) ks)
 
+-- a due key in front is one more due key
 due_cons_yes : (now : ℕ) (k : SetKey) (ks : List SetKey) → k.setting.due ≤ now → due_in now (k ∷ ks) ≡ suc (due_in now ks)
 due_cons_yes now k ks h = rw (le-leb k.setting.due now h) refl
 
+-- a key that isn't due in front leaves the number of due keys as it was
 due_cons_no : (now : ℕ) (k : SetKey) (ks : List SetKey) → now < k.setting.due → due_in now (k ∷ ks) ≡ due_in now ks
 due_cons_no now k ks h = rw (lt-leb k.setting.due now h) refl
 

@@ -11,6 +11,7 @@ use Rattle.std.specs.Option.{MatchOption}
 use Rattle.std.proofs.lemmas.Bool.{cases_lt}
 use Rattle.std.proofs.lemmas.List.{get_or_past}
 
+-- a key that is set, due and stands where its setting says is in the list of due keys
 listed_if : (now k : ℕ) (due : List DueKey) (o : Option Setting) (h : ℕ) (s : Setting) → o ≡ Some s → Stands now due k o h → s.due ≤ now →
     IsIn (due_key k s) due
 listed_if now k due None h s e st r = absurd (cc)
@@ -29,15 +30,18 @@ is_listed low now k s settings homes due x at r =
       | inr past ↦ absurd (let none : setting_in settings k ≡ None = get_or_past settings k None past in cc)
     ]
 
+-- the time is before the due time of a setting that isn't due
 none_due : (now k : ℕ) (s : Setting) → (s.due ≤ now → ⊥) → (now < s.due) ⊎ (s.due ≤ now) → now < s.due
 none_due now k s h (inl late) = late
 none_due now k s h (inr r) = absurd (h r)
 
+-- a key in a list whose head is before the rest is the head or comes after it
 either : (e : DueKey) (es : List DueKey) (k : ℕ) (s : Setting) → ((x : DueKey) → IsIn x es → IsBefore e x) → IsIn (due_key k s) (e ∷ es) →
     (k ≡ e.key) ⊎ IsBefore e (due_key k s)
 either e es k s sorted (inl is) = inl (ap (λ (z : DueKey). z.key) is)
 either e es k s sorted (inr later) = inr (sorted (due_key k s) later)
 
+-- the head of a wheel's due list is the first due key, and if the list is empty no set key is due
 pub first_is : (low now : ℕ) (settings : List (Option Setting)) (homes : List ℕ) (due : List DueKey) → IsWheel low now settings homes due →
     MatchOption (slice_get due 0) ((k : ℕ) (s : Setting) → setting_in settings k ≡ Some s → now < s.due) (IsFirstKey now settings)
 first_is low now settings homes [] x =

@@ -26,6 +26,7 @@ use Rattle.std.proofs.lemmas.List.{get_or-drop, get_or-take, get_or_past, length
 abbrev pub timers_of : ℕ → ℕ → List (Option Setting) → Timers
 timers_of now timers settings = record { now = now; timers = take timers settings; delays = drop timers settings }
 
+-- the key that is made from an index of the table has that index
 pub index_of_key : (timers i : ℕ) → index_of timers (key_of timers i) ≡ i
 index_of_key timers i = go (cases_lt i timers)
   where
@@ -33,6 +34,7 @@ index_of_key timers i = go (cases_lt i timers)
     go (inl less) = rw (lt-ltb i timers less) refl
     go (inr most) = rw (le-ltb i timers most) (omega arith)
 
+-- the key that is made from an index has the setting that the table has there
 pub setting_of_key : (now timers i : ℕ) (settings : List (Option Setting)) →
     setting_at (key_of timers i) (timers_of now timers settings) ≡ setting_in settings i
 setting_of_key now timers i settings = go (cases_lt i timers)
@@ -43,6 +45,7 @@ setting_of_key now timers i settings = go (cases_lt i timers)
         let e : timers + (i - timers) ≡ i = omega arith in
         rw (le-ltb i timers most) (get_or-drop timers settings (i - timers) None ∙ ap (setting_in settings) e)
 
+-- a key that is set has its setting in the table at the key's index
 pub setting_by_index : (now timers : ℕ) (settings : List (Option Setting)) (key : TimerKey) (s : Setting) →
     setting_at key (timers_of now timers settings) ≡ Some s → setting_in settings (index_of timers key) ≡ Some s
 setting_by_index now timers settings (OfTimer t) s h = go (cases_lt t.0 timers)
@@ -62,11 +65,13 @@ abbrev Rises : ℕ → List SetKey → Type 0
 Rises timers [] = Unit {0}
 Rises timers (k ∷ ks) = ((m : SetKey) → Among m ks → index_of timers k.key < index_of timers m.key) × Rises timers ks
 
+-- a key among two lists of set keys appended is among the first or among the second
 among_either : (k : SetKey) (xs ys : List SetKey) → Among k (xs ++ ys) → Among k xs ⊎ Among k ys
 among_either k [] ys at = inr at
 among_either k (x ∷ xs) ys (inl e) = inl (inl e)
 among_either k (x ∷ xs) ys (inr at) = elim (among_either k xs ys at) [ inl here ↦ inl (inr here) | inr there ↦ inr there ]
 
+-- key numbers rise along two lists appended, if they rise in each and those of the first are below the second's
 append_rises : (timers : ℕ) (xs ys : List SetKey) → Rises timers xs → Rises timers ys → ((a b : SetKey) → Among a xs → Among b ys →
     index_of timers a.key < index_of timers b.key) → Rises timers (xs ++ ys)
 append_rises timers [] ys a b across = b
@@ -75,11 +80,13 @@ append_rises timers (x ∷ xs) ys a b across = (
   append_rises timers xs ys a.1 b (λ p q at there. across p q (inr at) there),
 )
 
+-- case: one key in front; key numbers that rise along a list rise along what a filter keeps
 filter_step : (timers : ℕ) (p : SetKey → Bool) (x : SetKey) (xs : List SetKey) → Rises timers (x ∷ xs) → Rises timers (filter p xs) → (t : Bool) →
     Rises timers (cond t (x ∷ filter p xs) (filter p xs))
 filter_step timers p x xs h rest true = (λ m at. h.0 m (filter_among p m xs at).0, rest)
 filter_step timers p x xs h rest false = rest
 
+-- key numbers that rise along a list rise along the filtered list
 filter_rises : (timers : ℕ) (p : SetKey → Bool) (xs : List SetKey) → Rises timers xs → Rises timers (filter p xs)
 filter_rises timers p [] h = tt
 filter_rises timers p (x ∷ xs) h = filter_step timers p x xs h (filter_rises timers p xs h.1) (p x)
@@ -97,6 +104,7 @@ keyed_rises timers base key n (Some s ∷ xs) h = (
   keyed_rises timers base key (suc n) xs h,
 )
 
+-- the key number of a timer is below the number of timers
 timer_below : (timers : ℕ) (settings : List (Option Setting)) (k : SetKey) → Among k (keyed (λ n. OfTimer (timer n)) 0 (take timers settings)) →
     index_of timers k.key < timers
 timer_below timers settings k at =
@@ -108,11 +116,13 @@ timer_below timers settings k at =
           get_or_past (take timers settings) x.place None (omega (arith, length-take timers settings)) in let some = x.setting in cc)
     ]
 
+-- the key number of a delay is at least the number of timers
 delay_above : (timers : ℕ) (xs : List (Option Setting)) (k : SetKey) → Among k (keyed (λ n. OfDelay (thread n)) 0 xs) → timers ≤ index_of timers k.key
 delay_above timers xs k at =
     let x = keyed_placed (λ n. OfDelay (thread n)) 0 xs k at in
     let e : index_of timers k.key ≡ timers + (0 + x.place) = ap (index_of timers) x.named in omega arith
 
+-- key numbers rise along the list of all set keys
 keys_rise : (now timers : ℕ) (settings : List (Option Setting)) → Rises timers (set_keys (timers_of now timers settings))
 keys_rise now timers settings =
     append_rises timers (keyed (λ n. OfTimer (timer n)) 0 (take timers settings)) (keyed (λ n. OfDelay (thread n)) 0 (drop timers settings))
@@ -126,6 +136,7 @@ keys_rise now timers settings =
 abbrev entry : ℕ → SetKey → DueKey
 entry timers k = due_key (index_of timers k.key) k.setting
 
+-- a key that tests as earlier than another is before it as an entry
 entry_before : (timers : ℕ) (a b : SetKey) → is_earlier b a ≡ true → IsBefore (entry timers b) (entry timers a)
 entry_before timers a b h =
     elim (or_cases (ltb b.setting.due a.setting.due) (eqb b.setting.due a.setting.due && ltb b.setting.number a.setting.number) h) [
@@ -134,6 +145,7 @@ entry_before timers a b h =
           inr (eqb-true b.setting.due a.setting.due p.0, inl (ltb-true b.setting.number a.setting.number p.1))
     ]
 
+-- of two keys by rising number, the first is before the other as an entry if the other isn't earlier
 entry_after : (timers : ℕ) (a b : SetKey) → index_of timers a.key < index_of timers b.key → IsNotEarlier a.setting b.setting →
     IsBefore (entry timers a) (entry timers b)
 entry_after timers a b less (inl late) = inl late
@@ -146,19 +158,23 @@ entry_after timers a b less (inr tie) =
 abbrev IsLeast : ℕ → SetKey → SetKey → Type 0
 IsLeast timers m k = (k ≡ m) ⊎ IsBefore (entry timers m) (entry timers k)
 
+-- an entry that is least against another is least against each that comes after the other
 least_over : (timers : ℕ) (m a b : SetKey) → IsLeast timers m a → IsBefore (entry timers a) (entry timers b) → IsLeast timers m b
 least_over timers m a b (inl e) h = inr (subst (λ (z : SetKey). IsBefore (entry timers z) (entry timers b)) e h)
 least_over timers m a b (inr p) h = inr (before_trans (entry timers m) (entry timers a) (entry timers b) p h)
 
+-- if numbers rise along a list, they rise with the first two keys replaced by either of them
 best_rises : (timers : ℕ) (b z : SetKey) (zs : List SetKey) → Rises timers (b ∷ z ∷ zs) → (t : Bool) → Rises timers (cond t z b ∷ zs)
 best_rises timers b z zs h true = h.1
 best_rises timers b z zs h false = (λ m at. h.0 m (inr at), h.1.1)
 
+-- what is least against the earlier of two keys is least against both
 two_least : (timers : ℕ) (m b z : SetKey) → index_of timers b.key < index_of timers z.key → (t : Bool) → is_earlier z b ≡ t → IsLeast timers m (cond t z b) →
     IsLeast timers m b × IsLeast timers m z
 two_least timers m b z less true e h = (least_over timers m z b h (entry_before timers b z e), h)
 two_least timers m b z less false e h = (h, least_over timers m b z h (entry_after timers b z less (after b z e)))
 
+-- the earliest of keys with rising numbers, starting from one, is before each other one as an entry
 fold_least : (timers : ℕ) (b : SetKey) (ks : List SetKey) (k : SetKey) → Rises timers (b ∷ ks) → Among k (b ∷ ks) → IsLeast timers (fold earlier b ks) k
 fold_least timers b [] k h (inl e) = inl e
 fold_least timers b [] k h (inr at) = absurd at
@@ -173,6 +189,7 @@ fold_least timers b (z ∷ zs) k h (inr (inl e)) =
 fold_least timers b (z ∷ zs) k h (inr (inr at)) =
     fold_least timers (earlier b z) zs k (best_rises timers b z zs h (is_earlier z b)) (inr at)
 
+-- the earliest of a list of keys with rising numbers is before each other key as an entry
 reduce_first : (timers : ℕ) (ks : List SetKey) (m k : SetKey) → Rises timers ks → reduce earlier ks ≡ Some m → Among k ks → IsLeast timers m k
 reduce_first timers [] m k h e at = absurd at
 reduce_first timers (x ∷ xs) m k h e at =
@@ -181,6 +198,7 @@ reduce_first timers (x ∷ xs) m k h e at =
 
 -- ---- the first due key by number
 
+-- the key that is first by due time, event and key number is the first due key of the timers
 first_among : (now timers : ℕ) (settings : List (Option Setting)) (e : DueKey) → IsFirstKey now settings e → (o : Option SetKey) →
     first_due (timers_of now timers settings) ≡ o → (s : Setting) → setting_in settings e.key ≡ Some s → e ≡ due_key e.key s → s.due ≤ now →
     o ≡ Some (record { key = key_of timers e.key; setting = s })
@@ -213,6 +231,7 @@ first_among now timers settings e x (Some m) h s at same r =
       | inr c ↦ not_both e (due_key i t) c b
     ]
 
+-- the first due key of the table is the due key that is answered, with the number of the event that set it
 pub first_due_is : (now timers : ℕ) (settings : List (Option Setting)) (e : DueKey) → IsFirstKey now settings e →
     due_entry (timers_of now timers settings) ≡ Some (key_of timers e.key, e.number)
 first_due_is now timers settings e x =
@@ -220,6 +239,7 @@ first_due_is now timers settings e x =
     let n : x.setting.number ≡ e.number = ap (λ (z : DueKey). z.number) (sym x.same) in
     rw (h, n) refl
 
+-- if no key that is set is due, there is no first due key
 none_first : (now timers : ℕ) (settings : List (Option Setting)) → ((k : ℕ) (s : Setting) → setting_in settings k ≡ Some s → now < s.due) →
     (o : Option SetKey) → first_due (timers_of now timers settings) ≡ o → o ≡ None
 none_first now timers settings h None e = refl
@@ -230,11 +250,13 @@ none_first now timers settings h (Some m) e =
     let late = h (index_of timers m.key) m.setting set in
     let due = leb-true m.setting.due now at.1 in absurd (omega arith)
 
+-- if no key that the table sets is due, no due key is answered
 pub none_due_is : (now timers : ℕ) (settings : List (Option Setting)) → ((k : ℕ) (s : Setting) → setting_in settings k ≡ Some s → now < s.due) →
     due_entry (timers_of now timers settings) ≡ None
 none_due_is now timers settings h =
     rw (none_first now timers settings h (first_due (timers_of now timers settings)) refl) refl
 
+-- the thread of a delay that is set has a number below 65536
 pub delay_number : (timers k : ℕ) (s : Setting) (settings : List (Option Setting)) → IsNumbered (drop timers settings) → setting_in settings k ≡ Some s →
     timers ≤ k → k - timers < 65536
 delay_number timers k s settings numbered at most =

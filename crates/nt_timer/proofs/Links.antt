@@ -16,10 +16,12 @@ pub record IsWrittenTwice (f g : ℕ → ℕ) (a x b y : ℕ) : Type 0 where
   pub first : (a ≡ b → ⊥) → g a ≡ x
   pub rest : (i : ℕ) → (i ≡ a → ⊥) → (i ≡ b → ⊥) → g i ≡ f i
 
+-- after an entry of a list is written, it reads as written and the others as before
 pub written : (xs : List ℕ) (a x : ℕ) → a < length xs → IsWritten (λ i. get_or xs i 0) (λ i. get_or (set xs a x) i 0) a x
 written xs a x h =
     record { here = get_or-set_same xs a x 0 h; rest = λ i e. get_or-set_other xs a i x 0 e }
 
+-- after two entries of a list are written, each reads as last written and the others as before
 pub written_twice : (xs : List ℕ) (a x b y : ℕ) → a < length xs → b < length xs → IsWrittenTwice (λ i. get_or xs i 0)
     (λ i. get_or (set (set xs a x) b y) i 0) a x b y
 written_twice xs a x b y h k =
@@ -163,6 +165,7 @@ module _ (n : ℕ) (next previous home rank next' previous' home' : ℕ → ℕ)
         falls = b.2;
       }
 
+  -- after a node is taken out of its ring, the links still form whole rings
   pub detached : IsLinkage n next' previous' home' rank
   detached i h = detached_node i h (cases_eq i k)
 
@@ -178,13 +181,16 @@ pub record IsAppended (n : ℕ) (next previous home rank next' previous' home' :
   pub previouses : IsWrittenTwice previous previous' k (previous s) s k
   pub homes : IsWritten home home' k s
 
+-- the ranks after a node is appended: its own is one above that of the ring's last node, the others stay
 pub later : (ℕ → ℕ) → ℕ → ℕ → ℕ → ℕ
 later rank last k i = cond (eqb i k) (suc (rank last)) (rank i)
 
+-- the appended node has a rank one above that of the last node
 later_here : (rank : ℕ → ℕ) (last k i : ℕ) → i ≡ k → later rank last k i ≡ suc (rank last)
 unfolding later
 later_here rank last k i e = rw (eq-eqb i k e) refl
 
+-- every node but the appended one has the rank that it had
 later_rest : (rank : ℕ → ℕ) (last k i : ℕ) → (i ≡ k → ⊥) → later rank last k i ≡ rank i
 unfolding later
 later_rest rank last k i e = rw (ne_eqb i k e) refl
@@ -316,11 +322,13 @@ module _ (n : ℕ) (next previous home rank next' previous' home' : ℕ → ℕ)
         falls = b.2;
       }
 
+  -- after a lone node is appended to a ring, the links still form whole rings
   pub appended : IsLinkage n next' previous' home' (later rank (previous s) k)
   appended i h = appended_node i h (cases_eq i k)
 
 -- ---- the ring of a head that leads to itself has no other node
 
+-- if a head leads to itself, a walk back from any node of its ring shows that the node is the head
 walked : (n : ℕ) (next previous home rank : ℕ → ℕ) (s : ℕ) → IsLinkage n next previous home rank → next s ≡ s → (fuel i : ℕ) → i < n → home i ≡ s →
     rank i < fuel → i ≡ s
 walked n next previous home rank s d e zero i h at less = absurd (omega arith)
@@ -336,12 +344,14 @@ walked n next previous home rank s d e (suc f) i h at less =
           let there : previous i ≡ s = walked n next previous home rank s d e f (previous i) x.previous_below home_there (omega arith) in cc
     ]
 
+-- a head that is followed by itself has no other node in its ring
 pub none_of_ring : (next previous home : List ℕ) (s : ℕ) → AreLinked next previous home → get_or next s 0 ≡ s → (i : ℕ) → i < length home →
     get_or home i 0 ≡ s → i ≡ s
 none_of_ring next previous home s h e i less at =
     walked (length home) (λ i. get_or next i 0) (λ i. get_or previous i 0) (λ i. get_or home i 0) h.rank s h.nodes e (suc (h.rank i)) i less at
     (omega arith)
 
+-- if a head is followed by another node, that node is in the head's ring
 pub first_of_ring : (next previous home : List ℕ) (s : ℕ) → AreLinked next previous home → s < HEADS → s < length home → (get_or next s 0 ≡ s → ⊥) →
     IsOfRing home s (get_or next s 0)
 first_of_ring next previous home s h low less e =
@@ -359,6 +369,7 @@ first_of_ring next previous home s h low less e =
 
 -- ---- lists of links
 
+-- the three lists are still linked after the writes that take a node out of its ring
 pub detached_links : (next previous home : List ℕ) (k : ℕ) → AreLinked next previous home → k < length home → HEADS ≤ k →
     AreLinked (set (set next (get_or previous k 0) (get_or next k 0)) k k) (set (set previous (get_or next k 0) (get_or previous k 0)) k k) (set home k k)
 detached_links next previous home k h less other =
@@ -389,6 +400,7 @@ detached_links next previous home k h less other =
           (λ i. get_or (set (set previous (get_or next k 0) (get_or previous k 0)) k k) i 0) (λ i. get_or (set home k k) i 0) k d);
     }
 
+-- the three lists are still linked after the writes that put a lone node at the end of a ring
 pub appended_links : (next previous home : List ℕ) (s k : ℕ) → AreLinked next previous home → s < HEADS → k < length home → HEADS ≤ k →
     get_or home k 0 ≡ k → AreLinked (set (set next (get_or previous s 0) k) k s) (set (set previous k (get_or previous s 0)) s k) (set home k s)
 appended_links next previous home s k h low less other alone =
@@ -421,6 +433,7 @@ appended_links next previous home s k h low less other alone =
 
 -- ---- at the start each node is alone
 
+-- lists in which every node is alone are linked
 pub alone_links : (n : ℕ) (next previous home : List ℕ) → IsAlone n next → IsAlone n previous → IsAlone n home → AreLinked next previous home
 alone_links n next previous home a b c =
     let al = a.all in

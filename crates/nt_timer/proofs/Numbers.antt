@@ -14,6 +14,7 @@ use Rattle.std.proofs.lemmas.List.{get_or-set_other, get_or-set_same, get_or_pas
 
 -- ---- what is read after a write
 
+-- what is read at a place that was written is what was written
 written_here : (xs : List (Option Setting)) (t : ℕ) (o : Option Setting) (s : Setting) → setting_in (set xs t o) t ≡ Some s →
     (t < length xs) ⊎ (length xs ≤ t) → o ≡ Some s
 written_here xs t o s h (inl less) = sym (get_or-set_same xs t o None less) ∙ h
@@ -21,6 +22,7 @@ written_here xs t o s h (inr past) =
     let none : setting_in (set xs t o) t ≡ None = get_or_past (set xs t o) t None (omega (arith, length-set xs t o)) in
     let e : None ≡ Some s = sym none ∙ h in cc
 
+-- what is read after one place was written is what was written there, or was in the list before
 written : (xs : List (Option Setting)) (t u : ℕ) (o : Option Setting) (s : Setting) → setting_in (set xs t o) u ≡ Some s → (b : Bool) → eqb u t ≡ b →
     ((u ≡ t) × (o ≡ Some s)) ⊎ (setting_in xs u ≡ Some s)
 written xs t u o s h false e = inr (sym (get_or-set_other xs t u o None (eqb-false u t e)) ∙ h)
@@ -47,9 +49,11 @@ setting_written (OfDelay t) (OfTimer u) o x s h = inr h
 
 -- ---- numbers
 
+-- a setting that is made for a due time has its event's number
 due_number : (due n period : ℕ) (s : Setting) → due_at due n period ≡ Some s → s.number ≡ n
 due_number due n period s h = cc
 
+-- a setting that is renewed after an expiry has its event's number
 renewed_number : (n now : ℕ) (old : Option Setting) (s : Setting) → renewed n now old ≡ Some s → s.number ≡ n
 renewed_number n now None s h = absurd (cc)
 renewed_number n now (Some x) s h = go (eqb x.period 0) h
@@ -58,15 +62,18 @@ renewed_number n now (Some x) s h = go (eqb x.period 0) h
     go true h = absurd (cc)
     go false h = due_number (now + x.period) n x.period s h
 
+-- the setting that a key has after an event that sets it has this event's number
 after_number : (key : TimerKey) (n : ℕ) (x : Timers) (s : Setting) → setting_after key n x ≡ Some s → s.number ≡ n
 after_number (OfTimer t) n x s h = renewed_number n x.now (setting_in x.timers t.0) s h
 after_number (OfDelay t) n x s h = absurd (cc)
 
+-- no place of a list of absent settings has a setting
 nothing_set : (k i : ℕ) → setting_in (replicate k None) i ≡ None
 nothing_set zero i = refl
 nothing_set (suc k) zero = refl
 nothing_set (suc k) (suc i) = nothing_set k i
 
+-- no key is set in new timers
 none_new : (timers threads : ℕ) (key : TimerKey) (s : Setting) → setting_at key (new_timers timers threads) ≡ Some s → ⊥
 none_new timers threads (OfTimer t) s h =
     let e : None ≡ Some s = sym (nothing_set timers t.0) ∙ h in cc
@@ -79,15 +86,18 @@ new_or_old : (key c : TimerKey) (o : Option Setting) (m : ℕ) (x : Timers) (s :
 new_or_old key c o m x s n h =
     elim (setting_written key c o x s h) [ inl w ↦ inl (w.0, n s w.1) | inr old ↦ inr old ]
 
+-- settings' numbers stay below a bound after a setting of a number below it is written
 below_write : (key c : TimerKey) (o : Option Setting) (m n : ℕ) (x : Timers) (s : Setting) → ((z : Setting) → o ≡ Some z → z.number ≡ m) → m < n →
     (setting_at c x ≡ Some s → s.number < n) → setting_at c (with_setting key o x) ≡ Some s → s.number < n
 below_write key c o m n x s numbered less rest h =
     elim (new_or_old key c o m x s numbered h) [ inl w ↦ omega (arith, w.1) | inr old ↦ rest old ]
 
+-- a key that is set after a key's setting was removed was set before
 removed : (key c : TimerKey) (x : Timers) (s : Setting) → setting_at c (with_setting key None x) ≡ Some s → setting_at c x ≡ Some s
 removed key c x s h =
     elim (setting_written key c None x s h) [ inl w ↦ absurd (let e : None ≡ Some s = w.1 in cc) | inr old ↦ old ]
 
+-- a key that is set after the time changed was set before
 same_settings : (c : TimerKey) (x : Timers) (now : ℕ) (s : Setting) → setting_at c (record x { now = now }) ≡ Some s → setting_at c x ≡ Some s
 same_settings (OfTimer t) x now s h = h
 same_settings (OfDelay t) x now s h = h
@@ -125,6 +135,7 @@ one_write key a b o m x s t numbered below rest same at to =
     go (inr old) (inl w) = absurd (let l = below a s old in omega (arith, l, w.1))
     go (inr old) (inr older) = rest old older
 
+-- after calls whose numbers rise, two keys that were set by the same event are the same key
 pub numbers_tell_keys : NumbersTellKeys
 numbers_tell_keys timers threads [] h a b s t at to e = absurd (none_new timers threads a s at)
 numbers_tell_keys timers threads (Set u due period m ∷ past) h a b s t at to e =

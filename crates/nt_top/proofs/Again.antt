@@ -62,23 +62,28 @@ use Rattle.nt_top.proofs.PlainTasks.{run_of_input, sound_task, task_plain}
 
 -- ---- a text of rows is cut before the first one with a word
 
+-- if the rows of two joined lists are rows of a text, those of the first list are
 rows_front : (a b : List Row) → AllRows (a ++ b) → AllRows a
 rows_front [] b h = tt
 rows_front (r ∷ a) b h = (h.0, rows_front a b h.1)
 
+-- if the rows of two joined lists are rows of a text, those of the second list are
 rows_back : (a b : List Row) → AllRows (a ++ b) → AllRows b
 rows_back [] b h = h
 rows_back (r ∷ a) b h = rows_back a b h.1
 
+-- the line of a row begins with a word exactly if the row's first field is that word
 begins_row : (word : List ℕ) (row : Row) → IsRow row → begins word (line_of row) ≡ bytes_eq (first row) word
 begins_row word row h = ap (λ (r : Row). bytes_eq (first r) word) (fields_again row h)
 
+-- if no row has a word as its first field, no line of the rows begins with it
 none_before : (word : List ℕ) (rows : List Row) → AllRows rows → AllByRecursion (λ z. bytes_eq (first z) word ≡ false) rows →
     list_any (begins word) (map line_of rows) ≡ false
 none_before word [] h k = refl
 none_before word (row ∷ rows) h k =
     or_from (begins word (line_of row)) (list_any (begins word) (map line_of rows)) (begins_row word row h.0 ∙ k.0) (none_before word rows h.1 k.1)
 
+-- the part of a text from the first line that begins with a word is the text of the rows from there on
 part_of_rows : (word : List ℕ) (a b : List Row) (bytes : List ℕ) → bytes ≡ rows_text (a ++ b) → AllRows (a ++ b) →
     AllByRecursion (λ z. bytes_eq (first z) word ≡ false) a → first_begins word (map line_of b) ≡ true → part_from (behind word bytes) bytes ≡ rows_text b
 part_of_rows word a b bytes e h none there =
@@ -91,6 +96,7 @@ part_of_rows word a b bytes e h none there =
     ∙ ap (drop (length (rows_text a))) (e ∙ flat_map-append row_text a b)
     ∙ drop-append_seam (rows_text a) (rows_text b)
 
+-- the rows of a schedule are rows of a text, and the first line of them begins the schedule
 first_row : (input : Input) (s : Schedule) → AllRows (schedule_rows input.names s) →
     first_begins (tail_word tail.Schedule) (map line_of (schedule_rows input.names s)) ≡ true
 first_row input s h = begins_row (tail_word tail.Schedule) (limit_row s.turns) h.0
@@ -105,12 +111,14 @@ schedule_of_report input h sound plain sched =
 
 -- ---- the two parts are read
 
+-- no first word of a second part is a keyword of a script
 no_keyword : (version : ℕ) (k : Tail) → keyword_of version (tail_word k) ≡ None
 unfolding word_of
 no_keyword version tail.Schedule = refl
 no_keyword version tail.Report = refl
 no_keyword version (tail.ToShrink goal) = refl
 
+-- if the front is read as an input and the rest as its task, both parts are read as that task
 read_parts : (k : Tail) (input : Input) (at line : ℕ) (bytes front rest : List ℕ) (t : Task) → take at bytes ≡ front → drop at bytes ≡ rest → reading front
     ≡ Ok input → tail_task k input line rest ≡ Ok t → two_parts k (Some (at, line)) bytes ≡ Ok t
 read_parts k input at line bytes front rest t a b c d =
@@ -127,6 +135,7 @@ both_again k input rows t sound clean there read =
     ∙ read_parts k input (length (text input)) (1 + length (lines (text input))) (text input ++ rows_text rows) (text input) (rows_text rows) t
     (take-append_seam (text input) (rows_text rows)) (drop-append_seam (text input) (rows_text rows)) (reading_again input (sound_fits input sound)) read
 
+-- a script with a plain schedule after it is read as the task of replaying that schedule
 task_again : (input : Input) (s : Schedule) → IsSound input → IsPlain input s → AreBelow CPUS s.list →
     task_of form.Replay (text input ++ schedule_text input s) ≡ Ok (task.Replay input s)
 task_again input s sound plain below =
@@ -137,6 +146,7 @@ task_again input s sound plain below =
     (ap (λ (r : Result Schedule Bad). and_then r (λ x. Ok (task.Replay input x)))
     (ap (walk CPUS input start line) (lines_again rows clean) ∙ walk_again CPUS line input s sound plain below))
 
+-- a script with a report after it is read as the task of checking the reported history
 check_again : (input : Input) (h : History) → IsSound input → HistoryIsPlain input h → task_of form.Check (text input ++ report_text input h)
     ≡ Ok (task.Check input h)
 check_again input h sound plain =
@@ -147,17 +157,20 @@ check_again input h sound plain =
 
 -- ---- the turns of a history make it again
 
+-- replaying the schedule of a settled run gives its events again
 replayed_again : (s : Script) (h : History) → IsRun s h.turns (reverse h.events) → is_settled s h.turns (reverse h.events) ≡ true →
     replayed s (schedule_of h).turns (schedule_of h).list ≡ Ok (reverse h.events)
 replayed_again s h r d =
     ap (λ (es : List Event). replayed s h.turns (map turn_of es)) (sym (reverse-reverse h.events)) ∙ runs_replay s h.turns (reverse h.events) r d
 
+-- two histories that the same replay gives are the same
 same_past : (r : Result (List Event) Refused) (a b : List Event) → r ≡ Ok a → r ≡ Ok b → a ≡ b
 same_past r a b e k = go (sym e ∙ k)
   where
     go : ◌≡◌ {A = Result (List Event) Refused} (Ok a) (Ok b) → a ≡ b
     go i = cc
 
+-- a history that replays the schedule of another is that other history
 history_again : (s : Script) (h k : History) → replayed s (schedule_of h).turns (schedule_of h).list ≡ Ok (reverse h.events) →
     IsReplayed s (schedule_of h) k → k ≡ h
 history_again s h k e r =
@@ -188,9 +201,11 @@ answered_well one words f bytes t so sn ko kn status a given asked ok =
         (subst (λ (ys : List ℕ). task_of g ys ≡ Ok found.0) (gave_told xs bytes so sn gave given.left) found.1) in
         subst (λ (x : Task). IsDone x exit.Ok a.text) (same_task f bytes found.0 t here asked) found.2
 
+-- turns of processors below a count within the bound are of processors below the bound
 below_all : (cpus : ℕ) (list : List Turn) → cpus ≤ CPUS → AllByRecursion (λ t. (cpu_at t).0 < cpus) list → AreBelow CPUS list
 below_all cpus list few h = all_then (λ t. (cpu_at t).0 < cpus) (λ t. (cpu_at t).0 < CPUS) (λ t k. omega (arith, k, few)) list h
 
+-- replaying a script with the schedule part of its report behind it writes the same report
 pub written_again : WordsHaveOneForm → ReplayWritesTheSame
 written_again one words again f so sn ao an ko kn bo bn status w form_of given a memory write =
     let t = w.task in

@@ -47,6 +47,7 @@ by_source form.Verify so sn status text r h = h
 by_source (form.Shrink goal) so sn status text r h = h
 by_source (form.Audit turns workers) so sn status text r h = h
 
+-- what is answered to what the words ask for is what the words find
 answer_found : (words : List (List ℕ)) (so sn : Supply) (r : Result Task Answer) (status : Status) (text : List ℕ) → Asks words so sn r →
     IsAnswerTo r status text → IsFound words so sn status text
 answer_found words so sn (Ok t) status text h k =

@@ -40,6 +40,7 @@ found_unless exit.NoGoal found text old new w other = w.0
 found_unless exit.TooMany found text old new w other = w.0
 found_unless exit.NotDelivered found text old new w other = w.0
 
+-- if the status is that of a write fault, the sink had one more fault
 faulted : (status found : Status) (text : List ℕ) (old new : Store) → IsWritten found text old new status → status ≡ exit.Write → Rose old.faults new.faults
 faulted status found text old new w e = (subst (IsWritten found text old new) e w).0
 
@@ -49,9 +50,11 @@ same_bytes bytes told before None tells gave end = cc
 same_bytes bytes told before (Some more) tells gave end =
     let whole : bytes ++ more ≡ told = cc in sym (append-nil bytes) ∙ ap (λ (xs : List ℕ). bytes ++ xs) (sym end) ∙ whole
 
+-- taking bytes up to the input limit raises the count of bytes taken by at most that limit
 pub few_taken : (old n : ℕ) → n ≤ INPUT_LIMIT → counted old n ≤ old + INPUT_LIMIT
 few_taken old n h = omega (arith, min-le_left (old + n) last_count)
 
+-- if what was told is longer than the input limit, the bytes told are
 longer : (told : Option (List ℕ)) (bytes : List ℕ) → told ≡ Some bytes → IsLonger INPUT_LIMIT told → INPUT_LIMIT < length bytes
 longer None bytes e h = cc
 longer (Some xs) bytes e h = let same : xs ≡ bytes = cc in subst (λ (ys : List ℕ). INPUT_LIMIT < length ys) same h
@@ -66,6 +69,7 @@ found_as words so sn ko kn status wanted a other e =
     let same : a.found ≡ wanted = sym (found_unless status a.found a.text ko kn a.written other) ∙ e in
     (a.text, subst (λ (s : Status). IsFound words so sn s a.text) same a.cause)
 
+-- words that have no form find the status of usage, unless memory ran out
 usage_else : (words : List (List ℕ)) (so sn : Supply) (found : Status) (text : List ℕ) → IsNoForm words → IsFound words so sn found text →
     found ≢ exit.Memory → found ≡ exit.Usage
 usage_else words so sn exit.Ok text none f other = absurd (none f.0 f.1)
@@ -81,6 +85,7 @@ usage_else words so sn exit.NoGoal text none f other = absurd (none f.0 f.1)
 usage_else words so sn exit.TooMany text none f other = absurd (none f.0 f.1)
 usage_else words so sn exit.NotDelivered text none f other = absurd (none f.0 f.1)
 
+-- a form that reads its source takes no more than the input limit, unless it finds the input too long
 few_from : (f : Form) (so sn : Supply) (found : Status) (text : List ℕ) → IsFoundFrom f so sn found text → found ≢ exit.TooLong →
     sn.taken ≤ so.taken + INPUT_LIMIT
 few_from f so sn exit.Ok text w other = let g = w.1 in rw g.taken (few_taken so.taken _ g.few)
@@ -96,9 +101,11 @@ few_from f so sn exit.NoGoal text w other = let g = w.1 in rw g.taken (few_taken
 few_from f so sn exit.TooMany text w other = let g = w.1 in rw g.taken (few_taken so.taken _ g.few)
 few_from f so sn exit.NotDelivered text w other = let g = w.1 in rw g.taken (few_taken so.taken _ g.few)
 
+-- a supply that is as it was has taken no more than the input limit
 few_same : (so sn : Supply) → sn ≡ so → sn.taken ≤ so.taken + INPUT_LIMIT
 few_same so sn e = let same : sn.taken ≡ so.taken = ap (λ (s : Supply). s.taken) e in omega (arith, same)
 
+-- a form takes no more than the input limit, unless it finds the input too long
 few_by : (f : Form) (so sn : Supply) (found : Status) (text : List ℕ) → IsFoundBy f so sn found text → found ≢ exit.TooLong →
     sn.taken ≤ so.taken + INPUT_LIMIT
 few_by (form.Run turns) so sn found text w other = few_from (form.Run turns) so sn found text w other
@@ -111,10 +118,12 @@ few_by form.Verify so sn found text w other = few_from form.Verify so sn found t
 few_by (form.Shrink goal) so sn found text w other = few_from (form.Shrink goal) so sn found text w other
 few_by (form.Audit turns workers) so sn found text w other = few_from (form.Audit turns workers) so sn found text w other
 
+-- a call that ran out of memory took no more than the input limit
 few_starved : (words : List (List ℕ)) (so sn : Supply) → IsStarved words so sn → sn.taken ≤ so.taken + INPUT_LIMIT
 few_starved words so sn (inl e) = few_same so sn e
 few_starved words so sn (inr h) = h.few
 
+-- whatever words find, no more than the input limit was taken, unless the input is too long
 few_else : (words : List (List ℕ)) (so sn : Supply) (found : Status) (text : List ℕ) → IsFound words so sn found text → found ≢ exit.TooLong →
     sn.taken ≤ so.taken + INPUT_LIMIT
 few_else words so sn exit.Ok text f other = few_by f.0 so sn exit.Ok text f.2 other
@@ -155,6 +164,7 @@ read_by form.Verify so sn text w = w.0
 read_by (form.Shrink goal) so sn text w = w.0
 read_by (form.Audit turns workers) so sn text w = w.0
 
+-- a form that finds the input too long took one byte more than the input limit
 many_by : (f : Form) (so sn : Supply) (text : List ℕ) → IsFoundBy f so sn exit.TooLong text → RoseBy (INPUT_LIMIT + 1) so.taken sn.taken
 many_by (form.Run turns) so sn text w = w.1
 many_by form.Replay so sn text w = w.1
@@ -183,18 +193,23 @@ Which form bytes exit.TooLong = INPUT_LIMIT < length bytes
 Which form bytes exit.Memory = Unit {0}
 Which form bytes _ = ⊥
 
+-- the bytes that a source gave up to its end are the bytes that were left in it
 pub gave_told : (bytes told : List ℕ) (so sn : Supply) → Gave bytes so sn → so.left ≡ Some told → bytes ≡ told
 gave_told bytes told so sn g s = same_bytes bytes told so.left sn.left s g.left g.end
 
+-- an optional value that is known is there
 is_some_of : {A : Type 0} (o : Option A) (x : A) → o ≡ Some x → IsSome o
 is_some_of o x e = rw e refl
 
+-- an optional value that is absent is not there
 is_none_not : {A : Type 0} {o : Option A} → o ≡ None → IsSome o → ⊥
 is_none_not {A} {o} e some = let none : is_some o ≡ false = ap is_some e in cc
 
+-- bytes that make a task are not refused by the form
 not_refused : (form : Form) (bytes : List ℕ) (t : Task) → task_of form bytes ≡ Ok t → refusal form bytes ≡ None
 not_refused form bytes t e = ap refusal_of e
 
+-- a form and bytes make at most one task
 pub same_task : (form : Form) (bytes : List ℕ) (t u : Task) → task_of form bytes ≡ Ok t → task_of form bytes ≡ Ok u → t ≡ u
 same_task form bytes t u a b = go (sym a ∙ b)
   where
@@ -223,6 +238,7 @@ well_refused (task.Verify input) w some = false≢true some
 well_refused (task.Shrink input schedule goal) w some = is_none_not (ap turn_in w.1) some
 well_refused (task.Audit input turns workers) w some = false≢true some
 
+-- a task that goes wrong at some event has no refused turn
 wrong_refused : (t : Task) → GoesWrong t → IsSome (refused_turn t) → ⊥
 wrong_refused (task.Run input turns) w some = w.1
 wrong_refused (task.Live input turns) w some = w.1
@@ -233,6 +249,7 @@ wrong_refused (task.Verify input) w some = w.1
 wrong_refused (task.Shrink input schedule goal) w some = w.1
 wrong_refused (task.Audit input turns workers) w some = w.1
 
+-- no task goes both well and wrong
 well_wrong : (t : Task) → GoesWell t → GoesWrong t → ⊥
 well_wrong (task.Run input turns) w v = v.1
 well_wrong (task.Live input turns) w v = v.1
@@ -252,6 +269,7 @@ well_wrong (task.Check input history) w v =
 none_not : {A : Type 0} {o : Option A} (x : A) → o ≡ None → o ≡ Some x → ⊥
 none_not {A} {o} x e k = let bad : ◌≡◌ {A = Option A} None (Some x) = sym e ∙ k in cc
 
+-- a task that goes well misses nothing
 well_missed : (t : Task) (m : Status) → GoesWell t → missed t ≡ Some m → ⊥
 well_missed (task.Run input turns) m w e = none_not m refl e
 well_missed (task.Live input turns) m w e = none_not m refl e
@@ -262,6 +280,7 @@ well_missed (task.Verify input) m w e = none_not m refl e
 well_missed (task.Shrink input schedule goal) m w e = none_not m (ap miss_in w.1) e
 well_missed (task.Audit input turns workers) m w e = none_not m refl e
 
+-- a task that goes wrong misses nothing
 wrong_missed : (t : Task) (m : Status) → GoesWrong t → missed t ≡ Some m → ⊥
 wrong_missed (task.Run input turns) m w e = w.1
 wrong_missed (task.Live input turns) m w e = w.1
@@ -272,6 +291,7 @@ wrong_missed (task.Verify input) m w e = w.1
 wrong_missed (task.Shrink input schedule goal) m w e = w.1
 wrong_missed (task.Audit input turns workers) m w e = w.1
 
+-- where shrinking finds a refused turn, it misses nothing else
 no_turn_missed : (f : Found) (m : Status) → IsSome (turn_in f) → miss_in f ≡ Some m → ⊥
 no_turn_missed no_goal m some e = false≢true some
 no_turn_missed too_many m some e = false≢true some
@@ -279,6 +299,7 @@ no_turn_missed (bad_turn r) m some e = none_not m refl e
 no_turn_missed undelivered m some e = false≢true some
 no_turn_missed (delivered g) m some e = false≢true some
 
+-- a task with a refused turn misses nothing
 refused_missed : (t : Task) (m : Status) → IsSome (refused_turn t) → missed t ≡ Some m → ⊥
 refused_missed (task.Run input turns) m some e = false≢true some
 refused_missed (task.Live input turns) m some e = false≢true some
@@ -289,6 +310,7 @@ refused_missed (task.Verify input) m some e = false≢true some
 refused_missed (task.Shrink input schedule goal) m some e = no_turn_missed (found input schedule goal) m some e
 refused_missed (task.Audit input turns workers) m some e = false≢true some
 
+-- what is found in bytes within the limit has the cause of its status
 which_in : (form : Form) (bytes : List ℕ) (found : Status) (text : List ℕ) → length bytes ≤ INPUT_LIMIT → IsFoundIn form bytes found text →
     Which form bytes found
 which_in form bytes exit.Ok text few f = (few, (f.0, f.1, goes_well f.0 text f.2))
@@ -308,11 +330,13 @@ which_in form bytes exit.NotDelivered text few f = (few, (f.0, f.1, f.2.0))
 moved : (f g : Form) (a b : List ℕ) (found : Status) → f ≡ g → a ≡ b → Which f a found → Which g b found
 moved f g a b found e k w = subst (λ (x : Form). Which x b found) e (subst (λ (xs : List ℕ). Which f xs found) k w)
 
+-- what a form finds in the bytes that were given was found from a source
 from_given : WordsHaveOneForm → (words : List (List ℕ)) (so sn : Supply) (form : Form) (bytes : List ℕ) (g : Form) (found : Status) (text : List ℕ) →
     IsGiven words form bytes so sn → IsForm words g → IsFoundBy g so sn found text → IsFoundFrom g so sn found text
 from_given one words so sn form bytes g found text s h w =
     from_source g so sn found text (subst (λ (x : Form). reads x ≡ true) (sym (one words g form h s.form)) s.may) w
 
+-- what words find in the bytes that were given has the cause of its status
 which : WordsHaveOneForm → (words : List (List ℕ)) (so sn : Supply) (form : Form) (bytes : List ℕ) (found : Status) (text : List ℕ) →
     IsGiven words form bytes so sn → IsFound words so sn found text → Which form bytes found
 which one words so sn form bytes exit.Ok text s f =
@@ -347,6 +371,7 @@ which one words so sn form bytes exit.Write text s f = absurd (from_given one wo
 which one words so sn form bytes exit.Memory text s f = tt
 which one words so sn form bytes exit.TooLong text s f = longer so.left bytes s.left (from_given one words so sn form bytes f.0 exit.TooLong text s f.1 f.2).0
 
+-- for bytes longer than the limit the status is that of too long an input, unless memory ran out
 which_long : (form : Form) (bytes : List ℕ) (found : Status) → Which form bytes found → INPUT_LIMIT < length bytes → found ≢ exit.Memory →
     found ≡ exit.TooLong
 which_long form bytes exit.Ok w long other = let few = w.0 in absurd (omega (arith, few, long))
@@ -362,6 +387,7 @@ which_long form bytes exit.NoGoal w long other = let few = w.0 in absurd (omega 
 which_long form bytes exit.TooMany w long other = let few = w.0 in absurd (omega (arith, few, long))
 which_long form bytes exit.NotDelivered w long other = let few = w.0 in absurd (omega (arith, few, long))
 
+-- for bytes that the form refuses the status is that of a bad script, unless memory ran out
 which_refused : (form : Form) (bytes : List ℕ) (found : Status) → Which form bytes found → length bytes ≤ INPUT_LIMIT → IsSome (refusal form bytes) →
     found ≢ exit.Memory → found ≡ exit.Script
 which_refused form bytes exit.Ok w few bad other = absurd (is_none_not (not_refused form bytes w.1.0 w.1.1) bad)
@@ -384,15 +410,18 @@ record Tells (t : Task) (found : Status) : Type 0 where
   wrong : GoesWrong t → found ≡ exit.Illegal
   missed : (m : Status) → missed t ≡ Some m → found ≡ m
 
+-- two statuses that an optional status is are the same
 same_status : (m n : Status) (o : Option Status) → o ≡ Some m → o ≡ Some n → m ≡ n
 same_status m n o e k = go (sym e ∙ k)
   where
     go : ◌≡◌ {A = Option Status} (Some m) (Some n) → m ≡ n
     go h = cc
 
+-- a missed status of a form and bytes is the one that their task misses
 missed_now : (form : Form) (bytes : List ℕ) (t : Task) (m : Status) → IsMissed form bytes m → task_of form bytes ≡ Ok t → missed t ≡ Some m
 missed_now form bytes t m w e = subst (λ (u : Task). missed u ≡ Some m) (same_task form bytes w.1.0 t w.1.1 e) w.1.2
 
+-- a missed status comes from what the task misses, and from nothing else
 tells_missed : (form : Form) (bytes : List ℕ) (t : Task) (m : Status) → IsMissed form bytes m → task_of form bytes ≡ Ok t → Tells t m
 tells_missed form bytes t m w e =
     let now = missed_now form bytes t m w e in
@@ -403,6 +432,7 @@ tells_missed form bytes t m w e =
       missed = λ n k. same_status m n (missed t) now k;
     }
 
+-- for bytes that make a task the status tells how the task went, unless memory ran out
 which_tells : (form : Form) (bytes : List ℕ) (t : Task) (found : Status) → Which form bytes found → length bytes ≤ INPUT_LIMIT → task_of form bytes
     ≡ Ok t → found ≢ exit.Memory → Tells t found
 which_tells form bytes t exit.Ok w few e other =
@@ -439,20 +469,25 @@ which_tells form bytes t exit.NoGoal w few e other = tells_missed form bytes t e
 which_tells form bytes t exit.TooMany w few e other = tells_missed form bytes t exit.TooMany w e
 which_tells form bytes t exit.NotDelivered w few e other = tells_missed form bytes t exit.NotDelivered w e
 
+-- if the status is that of success, the task went well
 ok_tells : (form : Form) (bytes : List ℕ) (t : Task) → task_of form bytes ≡ Ok t → Which form bytes exit.Ok → GoesWell t
 ok_tells form bytes t e w = subst GoesWell (same_task form bytes w.1.0 t w.1.1 e) w.1.2
 
+-- if the status is that of a bad schedule, a turn of the task was refused
 schedule_tells : (form : Form) (bytes : List ℕ) (t : Task) → task_of form bytes ≡ Ok t → Which form bytes exit.Schedule → IsSome (refused_turn t)
 schedule_tells form bytes t e w = subst (λ (u : Task). IsSome (refused_turn u)) (same_task form bytes w.1.0 t w.1.1 e) w.1.2
 
+-- if the status is that of an illegal history, the task went wrong
 illegal_tells : (form : Form) (bytes : List ℕ) (t : Task) → task_of form bytes ≡ Ok t → Which form bytes exit.Illegal → GoesWrong t
 illegal_tells form bytes t e w = subst GoesWrong (same_task form bytes w.1.0 t w.1.1 e) w.1.2
 
+-- what words of the form load find is found by that form
 load_by : WordsHaveOneForm → (words : List (List ℕ)) (so sn : Supply) (seed turns : ℕ) (g : Form) (found : Status) (text : List ℕ) →
     IsForm words (form.Load seed turns) → IsForm words g → IsFoundBy g so sn found text → IsFoundBy (form.Load seed turns) so sn found text
 load_by one words so sn seed turns g found text h k w =
     subst (λ (x : Form). IsFoundBy x so sn found text) (one words g (form.Load seed turns) k h) w
 
+-- a load that ran out of memory left its source unread
 unread_starved : WordsHaveOneForm → (words : List (List ℕ)) (so sn : Supply) (seed turns : ℕ) → IsForm words (form.Load seed turns) →
     IsStarved words so sn → sn ≡ so
 unread_starved one words so sn seed turns h (inl e) = e
@@ -475,6 +510,7 @@ load_found one words so sn seed turns exit.NoGoal text h f = absurd (load_by one
 load_found one words so sn seed turns exit.TooMany text h f = absurd (load_by one words so sn seed turns f.0 exit.TooMany text h f.1 f.2).1
 load_found one words so sn seed turns exit.NotDelivered text h f = absurd (load_by one words so sn seed turns f.0 exit.NotDelivered text h f.1 f.2).1
 
+-- a load leaves its source unread, and succeeds unless memory or the sink failed
 load_cause : WordsHaveOneForm → (words : List (List ℕ)) (so sn : Supply) (ko kn : Store) (status : Status) (a : IsAnswered words so sn ko kn status)
     (seed turns : ℕ) → IsForm words (form.Load seed turns) → IsUnread status so sn
 load_cause one words so sn ko kn status a seed turns h =
@@ -486,6 +522,7 @@ load_cause one words so sn ko kn status a seed turns h =
 
 -- ---- all causes
 
+-- each status of a call comes for the reason that is told of it
 pub causes : WordsHaveOneForm → (words : List (List ℕ)) (so sn : Supply) (ko kn : Store) (status : Status) → IsAnswered words so sn ko kn status →
     HasCause words so sn ko kn status
 causes one words so sn ko kn status a =

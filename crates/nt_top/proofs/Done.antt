@@ -24,6 +24,7 @@ pub record IsSettledRun (t : Task) (h : History) : Type 0 where
   pub run : IsRun (input_of t).script (limit_of t) (reverse h.events)
   pub settled : is_settled (input_of t).script (limit_of t) (reverse h.events) ≡ true
 
+-- the history of a task is a settled run of the task's script, with its limit
 pub run_of : (t : Task) (h : History) → IsRunOf t h → IsSettledRun t h
 run_of (task.Run input turns) h r = record { turns = r.turns; run = r.run; settled = r.settled }
 run_of (task.Live input turns) h r = record { turns = r.turns; run = r.run; settled = r.settled }
@@ -40,6 +41,7 @@ run_of (task.Audit input turns workers) h r = absurd r
 pub events_of : (t : Task) (h : History) → IsSoundTask t → IsRunOf t h → events_fit (input_of t).script h.events ≡ true
 events_of t h s r = run_fits (input_of t).script (limit_of t) h.events s.sound.fits (run_of t h r).run
 
+-- the events of the history that is made for a sound task fit its script
 pub fit_made : (t : Task) (r : Result History ScheduleRefusal) → IsSoundTask t → IfOk r (IsRunOf t) →
     IfOk r (λ h. events_fit (input_of t).script h.events ≡ true)
 fit_made t (Ok h) s k = events_of t h s k

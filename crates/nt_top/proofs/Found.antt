@@ -59,6 +59,7 @@ done_in form bytes t exit.NoGoal text read h = (t, read, h)
 done_in form bytes t exit.TooMany text read h = (t, read, h)
 done_in form bytes t exit.NotDelivered text read h = (t, read, h)
 
+-- the report of a history that a task's run has is what the task writes if it goes well
 well_of : (t : Task) (h : History) (text : List ℕ) → IsRunOf t h → text ≡ report_text (input_of t) h → IsWell t text
 well_of (task.Run input turns) h text r k = record { history = h; run = r; is = k }
 well_of (task.Live input turns) h text r k = record { history = h; run = r; is = k }
@@ -125,6 +126,7 @@ illegal_done input h n exit.NotDelivered text v k = absurd k
 
 -- ---- what a form finds is what the words find
 
+-- what a form that reads its source finds is what the words of that form find
 found_as_form : (f : Form) (words : List (List ℕ)) (so sn : Supply) (status : Status) (text : List ℕ) → reads f ≡ true → IsForm words f →
     IsFoundFrom f so sn status text → IsFoundBy f so sn status text → IsFound words so sn status text
 found_as_form f words so sn exit.Ok text r h w v = (f, h, v)
@@ -140,6 +142,7 @@ found_as_form f words so sn exit.NoGoal text r h w v = (f, h, v)
 found_as_form f words so sn exit.TooMany text r h w v = (f, h, v)
 found_as_form f words so sn exit.NotDelivered text r h w v = (f, h, v)
 
+-- what the form load finds is what the words of that form find
 found_as_load : (seed turns : ℕ) (words : List (List ℕ)) (so sn : Supply) (status : Status) (text : List ℕ) → IsForm words (form.Load seed turns) →
     IsFoundBy (form.Load seed turns) so sn status text → IsFound words so sn status text
 found_as_load seed turns words so sn exit.Ok text h w = (form.Load seed turns, h, w)
@@ -155,6 +158,7 @@ found_as_load seed turns words so sn exit.NoGoal text h w = absurd w.1
 found_as_load seed turns words so sn exit.TooMany text h w = absurd w.1
 found_as_load seed turns words so sn exit.NotDelivered text h w = absurd w.1
 
+-- what is found by the form of the words is found for the words
 pub found_by : (f : Form) (words : List (List ℕ)) (so sn : Supply) (status : Status) (text : List ℕ) → IsForm words f → IsFoundBy f so sn status text →
     IsFound words so sn status text
 found_by (form.Run turns) words so sn status text h w = found_as_form (form.Run turns) words so sn status text refl h w w

@@ -53,6 +53,7 @@ use Rattle.nt_top.proofs.Done.{run_of}
 use Rattle.nt_top.proofs.Tasked.{IsCheck, IsRunTask, IsShrinkTask, check_is_one, live_is_a_run, replay_is_a_run, run_is_a_run, shrink_is_one}
 use Rattle.nt_top.proofs.PlainTasks.{IsPlainTask, run_of_input, sound_task, task_plain}
 
+-- each delivery in a run is eligible and names a pending insert, and inserts are as their objects hold
 all_due : (s : Script) (limit : ℕ) (past : List Event) → fits s ≡ true → IsRun s limit past → AllDue s past
 all_due s limit [] f r = tt
 all_due s limit (e ∷ past) f r = (
@@ -64,10 +65,12 @@ all_due s limit (e ∷ past) f r = (
   all_due s limit past f r.1,
 )
 
+-- in a settled run a processor that is not cut is closed
 closed : (s : Script) (limit : ℕ) (past : List Event) (p : CpuNo) → IsRun s limit past → is_settled s limit past ≡ true → IsUncut s limit past p →
     IsClosed s limit p past
 closed s limit past p r d u = record { run = r; settled = d; named = u.named; uncut = u.uncut }
 
+-- in a settled run nothing is left at processors that are not cut
 nothing_left : (s : Script) (limit : ℕ) (past : List Event) → IsRun s limit past → is_settled s limit past ≡ true → NothingIsLeft s limit past
 nothing_left s limit past r d = record {
   still = λ p u. closed_either s limit p past (closed s limit past p r d u);
@@ -85,6 +88,7 @@ lock_named s h p x fit e =
     let plain = subst (λ (o : Option Spun). SpinIsPlain s (length h.events) o) e (left_plain s h p fit) in
     plain.1
 
+-- the history of a plain task's run is an actual one
 actual : (t : Task) (h : History) → IsPlainTask t → IsRunOf t h → IsActual t h
 actual t h p i =
     let r = run_of t h i in
@@ -140,6 +144,7 @@ reported f so sn ko kn bytes text (task.Verify input) within gave read w added n
 reported f so sn ko kn bytes text (task.Shrink input schedule goal) within gave read w added n = absurd n
 reported f so sn ko kn bytes text (task.Audit input turns workers) within gave read w added n = absurd n
 
+-- a check that went well, with its text written, is a whole check
 checked : (so sn : Supply) (ko kn : Store) (bytes text : List ℕ) (t : Task) → Gave bytes so sn → task_of form.Check bytes ≡ Ok t → IsWell t text →
     kn.held ≡ append_known ko.held text → IsCheck t → IsWholeCheck so sn ko kn
 checked so sn ko kn bytes text (task.Run input turns) gave read w added n = absurd n
@@ -160,6 +165,7 @@ checked so sn ko kn bytes text (task.Check input history) gave read w added n = 
   written = subst (λ (x : List ℕ). kn.held ≡ append_known ko.held x) w.1 added;
 }
 
+-- a load that succeeded, with its text written, is a whole load
 load_written : (seed turns : ℕ) (so sn : Supply) (ko kn : Store) (text : List ℕ) → IsFoundBy (form.Load seed turns) so sn exit.Ok text →
     kn.held ≡ append_known ko.held text → IsWholeLoad seed turns so sn ko kn
 load_written seed turns so sn ko kn text w added = record {
@@ -169,6 +175,7 @@ load_written seed turns so sn ko kn text w added = record {
   written = subst (λ (x : List ℕ). kn.held ≡ append_known ko.held x) w.1.is added;
 }
 
+-- a migration that went well, with its text written, is a whole migration
 migrate_written : (so sn : Supply) (ko kn : Store) (bytes text : List ℕ) (t : Task) → Gave bytes so sn → task_of form.Migrate bytes ≡ Ok t → IsWell t text →
     kn.held ≡ append_known ko.held text → IsWholeMigrate so sn ko kn
 migrate_written so sn ko kn bytes text t gave read w added = go (reading bytes) refl read
@@ -192,6 +199,7 @@ pub record OfFindings : Type 0 where
   pub clean : CleanScriptsRefuseNothing
   pub ordered : OrderedScriptsSpinNowhere
 
+-- a verification that went well, with its text written, is a whole verification
 verify_written : (so sn : Supply) (ko kn : Store) (bytes text : List ℕ) (t : Task) → OfFindings → Gave bytes so sn → task_of form.Verify bytes ≡ Ok t →
     IsWell t text → kn.held ≡ append_known ko.held text → IsWholeVerify so sn ko kn
 verify_written so sn ko kn bytes text t laws gave read w added = go (reading bytes) refl read
@@ -212,6 +220,7 @@ verify_written so sn ko kn bytes text t laws gave read w added = go (reading byt
           ordered = laws.ordered;
         }
 
+-- a shrinking that went well, with its text written, is a whole shrinking
 shrink_written : (name : List ℕ) (so sn : Supply) (ko kn : Store) (bytes text : List ℕ) (t : Task) → Gave bytes so sn →
     task_of (form.Shrink name) bytes ≡ Ok t → IsWell t text → kn.held ≡ append_known ko.held text → IsShrinkTask name t → IsWholeShrink name so sn ko kn
 shrink_written name so sn ko kn bytes text (task.Run input turns) gave read w added n = absurd n
@@ -232,6 +241,7 @@ shrink_written name so sn ko kn bytes text (task.Shrink input schedule goal) gav
   written = added;
 }
 
+-- an audit that went well, with its text written, is a whole audit
 audit_written : (turns workers : ℕ) (so sn : Supply) (ko kn : Store) (bytes text : List ℕ) (t : Task) → Gave bytes so sn →
     task_of (form.Audit turns workers) bytes ≡ Ok t → IsWell t text → kn.held ≡ append_known ko.held text → IsWholeAudit turns so sn ko kn
 audit_written turns workers so sn ko kn bytes text t gave read w added = go (reading bytes) refl read
@@ -244,6 +254,7 @@ audit_written turns workers so sn ko kn bytes text t gave read w added = go (rea
         let is : IsAudited input (limited input turns) text = subst (λ (u : Task). IsWell u text) (sym same) w in
         record { bytes = bytes; gave = gave; input = input; read = e; text = text; audited = is; written = added }
 
+-- a form that succeeded, with its text written, has written what the form promises
 written_by : OfFindings → (f : Form) (so sn : Supply) (ko kn : Store) (text : List ℕ) → IsWithin f → IsFoundBy f so sn exit.Ok text →
     kn.held ≡ append_known ko.held text → HasWritten f so sn ko kn
 written_by laws (form.Run turns) so sn ko kn text within w added =
@@ -261,6 +272,7 @@ written_by laws (form.Shrink goal) so sn ko kn text within w added =
 written_by laws (form.Audit turns workers) so sn ko kn text within w added =
     audit_written turns workers so sn ko kn w.0 text w.2.0 w.1 w.2.1 w.2.2 added
 
+-- with status 0 what is written is what the form asks for, given the laws on what is found in scripts
 pub headline : OfFindings → Headline
 headline laws words so sn ko kn a =
     let found : IsFound words so sn exit.Ok a.text = subst (λ (s : Status). IsFound words so sn s a.text) (sym a.written.0) a.cause in (

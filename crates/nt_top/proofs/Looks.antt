@@ -25,6 +25,7 @@ each_whole [] at h = refl
 each_whole (r ∷ rises) zero h = h.0
 each_whole (r ∷ rises) (suc at) h = each_whole rises at h.1
 
+-- a look that takes its values from whole ones has a value for each class
 one_whole : (rises : List Rises) (d : Did) → AreWhole rises → LookIsWhole (what_of (values_at rises (noticed_of d)) d)
 one_whole rises (did.Look (One class value)) h = length-set (replicate 16 0) class value
 one_whole rises (did.Look (Several at)) h = each_whole rises at h

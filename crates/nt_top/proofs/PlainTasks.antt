@@ -48,6 +48,7 @@ IsPlainTask (task.Verify input) = IsSound input
 IsPlainTask (task.Shrink input schedule goal) = IsSound input × IsPlain input schedule
 IsPlainTask (task.Audit input turns workers) = IsSound input × IsLimit input turns
 
+-- the input of a plain task is sound
 pub sound_task : (t : Task) → IsPlainTask t → IsSound (input_of t)
 sound_task (task.Run input turns) p = p.0
 sound_task (task.Live input turns) p = p.0
@@ -80,6 +81,7 @@ schedule_plain make input line rest t each sound e = go (schedule_reading CPUS i
         let same : make schedule ≡ t = cc in
         subst IsPlainTask same (each schedule (walk_takes CPUS line input (lines rest) schedule (omega arith) sound is).1)
 
+-- a task that is read from a report after a sound input is plain
 report_plain : (input : Input) (line : ℕ) (rest : List ℕ) (t : Task) → IsSound input → report_task input line rest ≡ Ok t → IsPlainTask t
 report_plain input line rest t sound e = go (report_reading input line rest) refl e
   where
@@ -89,12 +91,14 @@ report_plain input line rest t sound e = go (report_reading input line rest) ref
         let same : task.Check input history ≡ t = cc in
         subst IsPlainTask same (sound, (reading_is_report input sound line rest history is).plain)
 
+-- a task that is read from the second part, after a sound input, is plain
 tail_plain : (k : Tail) (input : Input) (line : ℕ) (rest : List ℕ) (t : Task) → IsSound input → tail_task k input line rest ≡ Ok t → IsPlainTask t
 tail_plain tail.Schedule input line rest t sound e = schedule_plain (λ s. task.Replay input s) input line rest t (λ s plain. (sound, plain)) sound e
 tail_plain tail.Report input line rest t sound e = report_plain input line rest t sound e
 tail_plain (tail.ToShrink goal) input line rest t sound e =
     schedule_plain (λ s. task.Shrink input s goal) input line rest t (λ s plain. (sound, plain)) sound e
 
+-- a task that is read from two parts is plain
 parts_plain : (k : Tail) (split : Option (ℕ × ℕ)) (bytes : List ℕ) (t : Task) → two_parts k split bytes ≡ Ok t → IsPlainTask t
 parts_plain k None bytes t e = go (reading bytes) e
   where
@@ -116,6 +120,7 @@ limited_fits input turns w = go (nat_le input.script.cpus 8) (nat_le turns (turn
     go true false e k = rw (k, e) (omega arith, omega arith)
     go false false e k = rw (k, e) (omega arith, omega arith)
 
+-- a task that is read from bytes for a form in its ranges is plain
 pub task_plain : (f : Form) (bytes : List ℕ) (t : Task) → IsWithin f → task_of f bytes ≡ Ok t → IsPlainTask t
 task_plain (form.Run turns) bytes t w e =
     script_plain (λ input. task.Run input (limited input turns)) bytes t (λ input sound. (sound, limited_fits input turns w)) e
@@ -132,6 +137,7 @@ task_plain (form.Audit turns workers) bytes t w e =
 
 -- ---- its history
 
+-- a schedule with the turn limit and the turns of a history is that history's schedule
 schedule_same : (h : History) (s : Schedule) → h.turns ≡ s.turns → map turn_of (reverse (reverse h.events)) ≡ s.list → s ≡ schedule_of h
 schedule_same h s turns list =
     sym (ap (λ (n : ℕ). made n (map turn_of h.events)) turns
@@ -140,6 +146,7 @@ schedule_same h s turns list =
     made : ℕ → List Turn → Schedule
     made n xs = record { turns = n; list = xs }
 
+-- the history of a plain task is a run of the task's input
 pub run_of_input : (t : Task) (h : History) → IsPlainTask t → IsRunOf t h → IsRunOfInput (input_of t) h
 run_of_input (task.Run input turns) h p r =
     a_robin_run_is_one input h p.0 (subst (IsLimit input) (sym r.turns) p.1)

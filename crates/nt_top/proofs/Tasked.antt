@@ -70,23 +70,28 @@ parted P k each (Some (at, line)) bytes t e = go (reading (take at bytes)) e
     go (Err bad) h = cc
     go (Ok input) h = each input line (drop at bytes) t h
 
+-- a task of the form `run` is one whose history is reported
 pub run_is_a_run : (turns : ℕ) (bytes : List ℕ) (t : Task) → task_of (form.Run turns) bytes ≡ Ok t → IsRunTask t
 run_is_a_run turns bytes t e = made IsRunTask (λ input. task.Run input (limited input turns)) (λ x. tt) (reading bytes) t e
 
+-- a task of the form `live` is one whose history is reported
 pub live_is_a_run : (turns : ℕ) (bytes : List ℕ) (t : Task) → task_of (form.Live turns) bytes ≡ Ok t → IsRunTask t
 live_is_a_run turns bytes t e = made IsRunTask (λ input. task.Live input (limited input turns)) (λ x. tt) (reading bytes) t e
 
+-- a task of the form `replay` is one whose history is reported
 pub replay_is_a_run : (bytes : List ℕ) (t : Task) → task_of form.Replay bytes ≡ Ok t → IsRunTask t
 replay_is_a_run bytes t e =
     parted IsRunTask tail.Schedule
     (λ input line rest u h. made IsRunTask (λ s. task.Replay input s) (λ x. tt) (schedule_reading CPUS input line rest) u h)
     (behind (tail_word tail.Schedule) bytes) bytes t e
 
+-- a task of the form `check` is to check a history
 pub check_is_one : (bytes : List ℕ) (t : Task) → task_of form.Check bytes ≡ Ok t → IsCheck t
 check_is_one bytes t e =
     parted IsCheck tail.Report (λ input line rest u h. made IsCheck (λ x. task.Check input x) (λ x. tt) (report_reading input line rest) u h)
     (behind (tail_word tail.Report) bytes) bytes t e
 
+-- a task of the form `shrink` is to shrink a schedule for the form's goal
 pub shrink_is_one : (goal bytes : List ℕ) (t : Task) → task_of (form.Shrink goal) bytes ≡ Ok t → IsShrinkTask goal t
 shrink_is_one goal bytes t e =
     parted (IsShrinkTask goal) (tail.ToShrink goal)

@@ -24,6 +24,7 @@ written_whole exit.NoGoal text old new other added = (refl, added)
 written_whole exit.TooMany text old new other added = (refl, added)
 written_whole exit.NotDelivered text old new other added = (refl, added)
 
+-- no form finds the status of a write fault
 never_by : (f : Form) (old new : Supply) (text : List ℕ) → IsFoundBy f old new exit.Write text → ⊥
 never_by (form.Run turns) old new text w = w.2.2
 never_by form.Replay old new text w = w.2.2
@@ -50,5 +51,6 @@ found_before words old new exit.NoGoal text found e = cc
 found_before words old new exit.TooMany text found e = cc
 found_before words old new exit.NotDelivered text found e = cc
 
+-- what is found for a call never has the status of a failed write
 pub found_is_no_fault : (words : List (List ℕ)) (old new : Supply) (status : Status) (text : List ℕ) → IsFound words old new status text → status ≢ exit.Write
 found_is_no_fault words old new status text found = found_before words old new status text found

@@ -18,12 +18,14 @@ use Rattle.nt_verdict.specs.Closed.{FreeRunsTell, GoesOn, RoundsTell}
 use Rattle.nt_verdict.specs.Fails.{Fails, IsShown}
 use Rattle.nt_verdict.proofs.States.{is_quiet_at}
 
+-- the looks of a free run are short
 short : (s : Script) (h : List Event) → IsFreeRun s h → LooksAreShort h
 short s [] r = tt
 short s (e ∷ h) r = (r.0.1, short s h r.1)
 
 -- ---- what a free run shows
 
+-- an expectation fails if a free run shows it, by an event that may come or where all is quiet
 pub shown_fails : FreeRunsTell
 shown_fails s x k r m = go x m
   where
@@ -86,6 +88,7 @@ front s zero n h r l = (h, r, omega (arith, l))
 front s (suc m) n [] r l = absurd (omega (arith, l))
 front s (suc m) n (e ∷ h) r l = front s m n h r.1 (omega (arith, l))
 
+-- if each history of a list may go on into the list, there are runs of every length
 pub rounds_fail : RoundsTell
 rounds_fail s k all on n =
     let start : Run s (k ∷ all) on (length k) = record { history = k; free = on.0.0; long = refl; like = inl (alike_self s k) } in

@@ -51,6 +51,7 @@ module _ (s : Script) (watched : List Watched) (all : List (List Event)) where
     leads to more line (λ x a. inside x (inr a)),
   )
 
+-- histories that are a line from the empty one are a closed list, whatever is watched for
 line_closed : (s : Script) (watched : List Watched) (more : List (List Event)) → Line s [] more → IsClosed s watched ([] ∷ more)
 line_closed s watched more line =
     record {
@@ -58,6 +59,7 @@ line_closed s watched more line =
       each = leads s watched ([] ∷ more) [] more line (λ x a. a);
     }
 
+-- the histories of the worked row raise-queue-lower are a closed list, whatever is watched for
 pub closed : RowIsClosed
 unfolding later
 closed watched = line_closed script watched later line
@@ -69,6 +71,7 @@ shows : Script → Expectation → List Event → Type 0
 shows s x [] = ⊥
 shows s x (e ∷ past) = ShowsAt s x e past
 
+-- in a line of histories nothing may come that shows, if the newest event of none after the first does
 none_found : (s : Script) (x : Expectation) (k : List Event) (more : List (List Event)) → Line s k more → Each (λ h. shows s x h → ⊥) more →
     Each (λ h. (f : Event) → MayCome s f h → ShowsAt s x f h → ⊥) (k ∷ more)
 unfolding shows
@@ -78,6 +81,7 @@ none_found s x k (to ∷ more) (GoesTo r on line) h =
 
 -- ---- the verdicts
 
+-- from false being true anything follows
 no : {X : Type 0} → false ≡ true → X
 no q = cc
 
@@ -86,6 +90,7 @@ at_end : (x : Expectation) → (ShowsAtEnd script x rested → ⊥) → Each (λ
 unfolding table_from
 at_end x none = (no, (no, (no, (no, (no, (no, (no, (no, (no, (no, (no, (λ q. none, tt))))))))))))
 
+-- if no event shows a failure of an expectation, none that may come after the histories does
 nothing_on : (x : Expectation) → ((e : Event) (past : List Event) → ShowsAt script x e past → ⊥) →
     Each (λ k. (f : Event) → MayCome script f k → ShowsAt script x f k → ⊥) histories
 nothing_on x none = all histories
@@ -94,6 +99,7 @@ nothing_on x none = all histories
     all [] = tt
     all (k ∷ hs) = ((λ f m. none f k), all hs)
 
+-- no history shows that the DPC begins twice
 twice : NoneShows script (NeverTwice (Begin (act.Dpc d))) histories
 unfolding shows later
 twice =
@@ -111,6 +117,7 @@ twice =
     before (inr (inr (inr (inl x)))) = x
     before (inr (inr (inr (inr x)))) = x
 
+-- no history shows that the DPC waits
 waits : NoneShows script (NeverWaitsDpc d) histories
 unfolding table_from
 waits =
@@ -120,6 +127,7 @@ waits =
       ends = λ q. cc;
     }
 
+-- no history shows that the note 7 does not always come
 noted : NoneShows script (Always (Note 7)) histories
 noted =
     record {
@@ -128,6 +136,7 @@ noted =
       ends = λ q. cc;
     }
 
+-- no history shows that the run does not always end
 ending : NoneShows script AlwaysEnds histories
 ending =
     record {
@@ -136,6 +145,7 @@ ending =
       ends = λ q. record { monitor = last_level; rank = events_left; bound = 11; ranked = ranked last_level };
     }
 
+-- in the row the DPC begins once at most, leaves the queue and has noted 7 at the end, and every run ends
 pub keeps : RowKeeps
 keeps = (
   tell script (Begin (act.Dpc d) ∷ []) (NeverTwice (Begin (act.Dpc d))) histories refl (inl refl, tt) (closed (Begin (act.Dpc d) ∷ [])) twice,
@@ -148,6 +158,7 @@ keeps = (
   ),
 )
 
+-- in the worked row the expectation that 7 is never noted fails
 pub fails : RowFails
 fails =
     shown_fails script (Never (Note 7)) dpc_begun run_noted.1 (inl (event 0 (Some main) 2 (Call 4 (cmd.Note 7) Done), run_noted.0, refl))

@@ -84,6 +84,7 @@ module _ (s : Script) (h k : List Event) (al : Alike s h k) where
   object_there : (d : DpcNo) (past : List Event) → has_dpc s d ≡ true → object_at (lanes_at s past) d ≡ object_of d past
   object_there d past l = get_or-table (length s.dpcs) d.0 (λ n. object_of (dpc n) past) start_object (ltb-true d.0 (length s.dpcs) l)
 
+  -- in alike histories a declared DPC waits in a queue after both or after neither
   pub dpc_waits_same : (d : DpcNo) → has_dpc s d ≡ true → dpc_waits d h ≡ dpc_waits d k
   dpc_waits_same d l =
       ap is_queued (sym (object_there d h l)) ∙ stand.dpcs d ∙ ap is_queued (object_there d k l)
@@ -94,12 +95,14 @@ module _ (s : Script) (h k : List Event) (al : Alike s h k) where
   waiting_bare (Blocked w) = refl
   waiting_bare Gone = refl
 
+  -- in alike histories a thread is blocked after both or after neither
   pub blocked_same : (t : ThreadNo) → is_blocked s t h ≡ is_blocked s t k
   blocked_same t =
       sym (waiting_bare (facts_at (lanes_at s h) t).doing)
       ∙ ap (λ (x : Doing). is_some (waiting_of x)) (stand.doing t)
       ∙ waiting_bare (facts_at (lanes_at s k) t).doing
 
+  -- in alike histories a processor that spins on a declared lock after the one does so after the other
   pub spins_same : (x : LockNo) → has_lock s x ≡ true → SpinsOn s x h → SpinsOn s x k
   spins_same x l spins = (spins.0, sym same ∙ spins.1)
     where
@@ -120,6 +123,7 @@ quiet_settled : (s : Script) (limit : ℕ) (h : List Event) → ((p : ℕ) → p
 quiet_settled s limit h uncut =
     ap (list_all (λ b. b)) (table-same {A = Bool} s.cpus _ (λ p. is_done_with s limit (cpu p) h) (λ p l. let u = uncut p l in rw u refl))
 
+-- a history that is quiet under a turn limit passes the test of being quiet
 pub quiet_is : (s : Script) (limit : ℕ) (h : List Event) → IsQuiet s limit h → is_quiet s h ≡ true
 quiet_is s limit h q = quiet_settled s limit h (λ p l. q.uncut (cpu p) (lt-ltb p s.cpus l)) ∙ q.settled
 

@@ -33,6 +33,7 @@ came_of h k x (y ∷ all) (inr a) c = came_of h k x all a c.1
 
 -- ---- what shows
 
+-- in alike histories in which the same watched events came, like events show an expectation alike
 pub show_alike : AlikeShowAlike
 show_alike s watched x h k e f are al q next m = go x are m
   where
@@ -52,6 +53,7 @@ show_alike s watched x h k e f are al q next m = go x are m
     go (NeverWith b c) a m = together_same s (e ∷ h) (f ∷ k) next b c m
     go x a m = absurd m
 
+-- alike histories in which the same watched events came show an expectation alike at a quiet end
 pub end_alike : AlikeEndAlike
 end_alike s watched x h k fits are al m = go x fits are m
   where
@@ -99,6 +101,7 @@ front : (s : Script) (newer past : List Event) → IsFreeRun s (newer ++ past) �
 front s [] past r = r
 front s (e ∷ newer) past r = front s newer past r.1
 
+-- if no history of a closed list shows an expectation failing, it fails in no run under any schedule and limit
 pub tell : ClosedListsTell
 tell s watched x all fits are closed none = go x fits are none
   where

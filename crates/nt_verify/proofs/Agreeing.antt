@@ -76,11 +76,13 @@ pub record Agrees (s : Script) (p : CpuNo) (f : Frame) : Type 0 where
   pub site : f.body ≡ body_at s (site_of p f)
   pub walks : (c : Command) → next_command s p f ≡ Some c → Walks (walk_of s p f) f
 
+-- anything follows if false equals true
 no_bool : {A : Type 0} → false ≡ true → A
 no_bool h = cc
 
 -- ---- the commands of a site
 
+-- the routine declared at the site of a frame's body is the routine that the body runs
 routine_same : (s : Script) (p : CpuNo) (b : Body) (k : Bool) → routine_at s (site_in p k b) ≡ routine_of s p b k
 routine_same s p (on.Int level) k = refl
 routine_same s p (on.Dpc d) k = refl
@@ -100,6 +102,7 @@ next_at s p f c h = go f.leaving h
 
 -- ---- frames that begin
 
+-- the frame that a body begins stands as the first frame of its site, if that site gives the body back
 first_walks : (s : Script) (p : CpuNo) (n : ℕ) (b : Body) → b ≡ body_at s (site_in p (is_apc_body b) b) →
     Walks (first_frame s (site_in p (is_apc_body b) b)) (new_frame n b)
 first_walks s p n (on.Int level) e =
@@ -115,6 +118,7 @@ first_walks s p n (on.Base t) e =
 first_walks s p n (on.Rundown a) e =
     record { body = refl; phase = refl; crit = refl; guard = refl; held = refl; level = refl; quiet = refl; low = λ z. no_bool z }
 
+-- a new frame stands as the walk of its site begins, if its body is that of the site
 pub new_agrees : (s : Script) (p : CpuNo) (n : ℕ) (b : Body) → IsOfPart s b → b ≡ body_at s (site_in p (is_apc_body b) b) → Agrees s p (new_frame n b)
 new_agrees s p n b q e = record { part = q; site = e; walks = λ c h. first_walks s p n b e }
 
@@ -124,12 +128,14 @@ normal_site s p (on.Apc a kind) true n e = e
 normal_site s p (on.Apc a kind) false n e = e
 normal_site s p b k n e = cc
 
+-- an APC frame that enters its normal routine stands as that site's first frame, if it holds no lock
 normal_walks : (s : Script) (p : CpuNo) (b : Body) (f : Frame) → has_normal b ≡ true → f.body ≡ b → b ≡ body_at s (site_in p false b) → f.held ≡ [] →
     Walks (first_frame s (site_in p false b)) (normal_of f)
 normal_walks s p (on.Apc a kind) f n e q h =
     record { body = sym q ∙ sym e; phase = refl; crit = refl; guard = refl; held = sym h; level = refl; quiet = refl; low = λ z. no_bool z }
 normal_walks s p b f n e q h = cc
 
+-- a frame that goes on to its APC's normal routine stands as the walk of that routine begins
 pub normal_agrees : (s : Script) (p : CpuNo) (x : Own) (n : ℕ) (k : KnownNormal s p x n) → Agrees s p k.frame → Agrees s p (normal_of k.frame)
 normal_agrees s p x n k h =
     let q = normal_site s p k.frame.body k.frame.kernel_phase k.normal h.site in
@@ -137,20 +143,25 @@ normal_agrees s p x n k h =
 
 -- ---- frames that have no next command
 
+-- an option can't be both none and some
 none_some : {A B : Type 0} (o : Option A) (a : A) → o ≡ None → o ≡ Some a → B
 none_some None a e h = cc
 none_some (Some b) a e h = cc
 
+-- a frame with no next command that frees its last spin lock still stands as its walk does
 pub freed_agrees : (s : Script) (p : CpuNo) (x : Own) (n : ℕ) (l : LockNo) (k : KnownFree s p x n l) → Agrees s p k.frame → Agrees s p (freed k.frame)
 freed_agrees s p x n l k h = record { part = h.part; site = h.site; walks = λ c e. none_some (next_command s p k.frame) c k.command e }
 
+-- the site of a base body gives back that body
 base_site : (s : Script) (p : CpuNo) (b : Body) (k : Bool) → is_base_body b ≡ true → b ≡ body_at s (site_in p k b)
 base_site s p (on.Base t) k h = refl
 base_site s p b k h = cc
 
+-- a base frame that ends still stands as its walk does
 pub ended_agrees : (s : Script) (p : CpuNo) (f : Frame) → is_base_body f.body ≡ true → Agrees s p f → Agrees s p (ended_base f)
 ended_agrees s p f b h = record { part = h.part; site = base_site s p f.body f.kernel_phase b; walks = λ c e. none_some {A = Command} None c refl e }
 
+-- a frame whose thread is switched to still stands as its walk does, whatever its wait's status
 pub resumed_agrees : (s : Script) (p : CpuNo) (status : Option ℕ) (f : Frame) → Agrees s p f → Agrees s p (resumed status f)
 resumed_agrees s p None f h = h
 resumed_agrees s p (Some x) f h =
@@ -169,6 +180,7 @@ resumed_agrees s p (Some x) f h =
       };
     }
 
+-- a frame that takes up its wait again still stands as its walk does, whatever the reply
 pub rewaited_agrees : (s : Script) (p : CpuNo) (y : Reply) (f : Frame) → Agrees s p f → Agrees s p (rewaited y f)
 rewaited_agrees s p y f h =
     record {
@@ -188,14 +200,17 @@ rewaited_agrees s p y f h =
 
 -- ---- a frame that calls is alone in what its tests ask
 
+-- the two tests of a body being a processor's own give the same answer
 own_same : (b : Body) → is_own_body b ≡ is_own b
 own_same (on.Int level) = refl
 own_same b = refl
 
+-- if each of a thread's frames is sound, the innermost one has no body of a processor's own
 head_sound : (fs : List Frame) (f : Frame) → Each Sound fs → head_of fs ≡ Some f → is_own_body f.body ≡ false
 head_sound [] f h e = cc
 head_sound (g ∷ fs) f h e = let same : g ≡ f = cc in subst (λ (x : Frame). is_own_body x.body ≡ false) same h.0.2
 
+-- in a run the processor's own part has frames exactly if the innermost frame is an interrupt or a DPC
 pub stands_own : (s : Script) (limit : ℕ) (p : CpuNo) (past : List Event) (f : Frame) → IsRun s limit past → innermost (frames_of s p past) ≡ Some f →
     not (is_null (own_frames p past)) ≡ is_own f.body
 stands_own s limit p past f r h = go (own_frames p past) refl (all_own p past)
@@ -216,12 +231,14 @@ stands_own s limit p past f r h = go (own_frames p past) refl (all_own p past)
         let high : is_own_body f.body ≡ true = subst (λ (x : Frame). is_own_body x.body ≡ true) same a.0.0 in
         sym (sym (own_same f.body) ∙ high)
 
+-- if a base frame is the innermost of a thread's frames, it is the only one
 base_alone : (t : ThreadNo) (fs : List Frame) (f : Frame) → HasBase t fs → head_of fs ≡ Some f → is_base_body f.body ≡ true → fs ≡ f ∷ []
 base_alone t [] f h e b = absurd h
 base_alone t (g ∷ []) f h e b = let same : g ≡ f = cc in ap (λ (x : Frame). x ∷ []) same
 base_alone t (g ∷ (i ∷ fs)) f h e b =
     let same : g ≡ f = cc in let no : is_base_body f.body ≡ false = subst (λ (x : Frame). is_base_body x.body ≡ false) same h.0.0 in no_bool (sym no ∙ b)
 
+-- the regions of a single frame alone are open if and only if those in the frame are
 open_alone : (f : Frame) → is_open (regions_of (f ∷ [])) ≡ is_open (regions_in f)
 open_alone f =
     ap (λ (n : ℕ). not ((n == 0) && ((0 + f.guard) == 0))) (zero-add f.crit) ∙ ap (λ (n : ℕ). not ((f.crit == 0) && (n == 0))) (zero-add f.guard)
@@ -247,6 +264,7 @@ regions_same level false q r f ToUser h = go (is_base_body f.body) refl
     go true e = ap (λ (o : Bool). not_above 0 level (refuse o RegionsOpen None)) (h refl e)
 regions_same level own q r f c h = refl
 
+-- a truth value whose negation is false is true
 not_null : (b : Bool) → not b ≡ false → b ≡ true
 not_null true h = refl
 not_null false h = cc
@@ -263,9 +281,11 @@ refused_alone s limit p past f c r h =
 
 -- ---- a frame that calls
 
+-- no option that is none is equal to one with a held lock
 no_held : {A : Type 0} (h : Held) → ◌≡◌ {A = Option Held} None (Some h) → A
 no_held h e = cc
 
+-- two commands that are equal as options are equal
 same_command : (c d : Command) → ◌≡◌ {A = Option Command} (Some c) (Some d) → c ≡ d
 same_command c d e = cc
 
@@ -297,20 +317,24 @@ done_or_spin s st l LeaveCrit d n = refl
 done_or_spin s st l LeaveGuard d n = refl
 done_or_spin s st l c d n = cc
 
+-- a reply that tests as a spin is a spin
 spin_is : (y : Reply) → is_spin y ≡ true → Spin ≡ y
 spin_is Spin h = refl
 spin_is y h = cc
 
+-- a command that is neither done at once nor spins is no acquire
 no_acquire : (c : Command) → is_done_or_spins c ≡ false → is_acquire c ≡ false
 no_acquire (Acquire k) h = cc
 no_acquire c h = refl
 
 -- ---- no command that is made is told as refused
 
+-- a reply of yes or no is no refusal
 yes_accepts : (b : Bool) → is_refused (yes_if b) ≡ false
 yes_accepts true = refl
 yes_accepts false = refl
 
+-- the reply to a wait is no refusal, whatever state the thread and the object are in
 wait_accepts : (x : ThreadFacts) (r : Regions) (level : ℕ) (m : Mode) (a : Bool) (o : Option Bool) → is_refused (wait_reply x r level m a o) ≡ false
 wait_accepts x r level m a o =
     ifs (is_some (deliverable x.apcs r level)) (is_satisfied x o) (a && is_alerted m x) (a && (is_user m && has_user x.apcs)) (a && x.alerted_kernel)
@@ -326,6 +350,7 @@ wait_accepts x r level m a o =
     ifs false false false false false true = refl
     ifs false false false false false false = refl
 
+-- the reply to a command that is made is no refusal, whatever states the lanes are in
 accepts : (s : Script) (st : Stand) (l : Lanes) (c : Command) → is_refused (reply s st l c) ≡ false
 accepts s st l (Acquire k) = go (is_none (lock_at l k).holder)
   where
@@ -346,6 +371,7 @@ accepts s st l (Alert t m) = yes_accepts _
 accepts s st l (TestAlert m) = yes_accepts _
 accepts s st l c = refl
 
+-- a reply that is no refusal tells of no refusal at any IRQL
 none_told : (y : Reply) (level : ℕ) → is_refused y ≡ false → told y level ≡ None
 none_told (Refused r) level h = cc
 none_told y level h = refl
@@ -470,6 +496,7 @@ module _ (s : Script) (limit : ℕ) (p : CpuNo) (past : List Event) (r : IsRun s
           (refused_walks due c q w f walks (calm_refused q e)))
       go None e = accepted e (k.reply ∙ ap (λ (o : Option Refusal). reply_or o answer) e) (is_spin y) (is_done_or_spins c) refl refl
 
+  -- a frame that calls its next command in a run stands as its walk does after that command
   pub called_agrees : (due : Option ℕ) → Agrees s p (called due c y f)
   called_agrees due =
       record {

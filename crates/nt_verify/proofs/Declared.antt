@@ -22,17 +22,21 @@ use Rattle.nt_verify.specs.Steps.{has_lock_below}
 
 -- ---- the tests of a script that fits
 
+-- a script that fits meets the limits
 limits_hold : (s : Script) → fits s ≡ true → meets_limits s ≡ true
 limits_hold s h = (both _ _ (both _ _ (both _ _ (both _ _ (both _ _ (both _ _ (both _ _ h).0).0).0).0).0).0).0
 
+-- a script that fits has at most 64 locks
 locks_few : (s : Script) → fits s ≡ true → s.locks ≤ 64
 locks_few s h = leb-true s.locks 64 (both _ _ (both _ _ (both _ _ (limits_hold s h)).0).0).1
 
+-- the routines of a script that fits have at most 8192 commands in all
 commands_limited : (s : Script) → fits s ≡ true → command_count s.routines ≤ 8192
 commands_limited s h = leb-true (command_count s.routines) 8192 (both _ _ (limits_hold s h)).1
 
 -- ---- the commands of one routine
 
+-- a routine of a script that fits has at most 8192 commands
 pub commands_few : (s : Script) (r : Option RoutineNo) → fits s ≡ true → length (commands_of s r) ≤ 8192
 commands_few s None h = omega arith
 commands_few s (Some r) h = go (slice_get s.routines r.0) refl
@@ -47,14 +51,17 @@ commands_few s (Some r) h = go (slice_get s.routines r.0) refl
         let all = commands_limited s h in
         omega (arith, one, all)
 
+-- a lock below the script's number of locks is below 64, if the script has at most 64
 lock_low : (s : Script) (k : LockNo) → s.locks ≤ 64 → nat_lt k.0 s.locks ≡ true → nat_lt k.0 64 ≡ true
 lock_low s k few h = let l = ltb-true k.0 s.locks h in lt-ltb k.0 64 (omega (arith, l, few))
 
+-- a command that fits a script of at most 64 locks names only locks below 64
 low_lock : (s : Script) (c : Command) → s.locks ≤ 64 → command_fits s c ≡ true → has_lock_below 64 c ≡ true
 low_lock s (Acquire k) few h = lock_low s k few h
 low_lock s (Unlock k) few h = lock_low s k few h
 low_lock s c few h = refl
 
+-- a command at any place of a routine of a script that fits names only a lock below 64
 pub low_locks : (s : Script) (r : Option RoutineNo) (i : ℕ) (c : Command) → fits s ≡ true → slice_get (commands_of s r) i ≡ Some c →
     has_lock_below 64 c ≡ true
 low_locks s None i c h e = absurd cc
@@ -65,11 +72,13 @@ low_locks s (Some r) i c h e = go (slice_get s.routines r.0) refl e
     go (Some x) p q =
         low_lock s c (locks_few s h) (each (command_fits s) x.commands i c (each (routine_fits s) s.routines r.0 x (both _ _ h).1 p) q)
 
+-- if all of a list passes a test, all of it passes each weaker test
 all_weaker : {A : Type 0} (p q : A → Bool) (xs : List A) → ((x : A) → p x ≡ true → q x ≡ true) → list_all p xs ≡ true → list_all q xs ≡ true
 all_weaker p q [] k h = refl
 all_weaker p q (x ∷ xs) k h =
     let b = both (p x) (list_all p xs) h in and_both (q x) (list_all q xs) (k x b.0) (all_weaker p q xs k b.1)
 
+-- all commands of a routine of a script that fits pass the test that their locks are below 64
 pub all_low : (s : Script) (r : Option RoutineNo) → fits s ≡ true → list_all (has_lock_below 64) (commands_of s r) ≡ true
 all_low s None h = refl
 all_low s (Some r) h = go (slice_get s.routines r.0) refl
@@ -80,6 +89,7 @@ all_low s (Some r) h = go (slice_get s.routines r.0) refl
         all_weaker (command_fits s) (has_lock_below 64) x.commands (λ c q. low_lock s c (locks_few s h) q)
         (each (routine_fits s) s.routines r.0 x (both _ _ h).1 p)
 
+-- if all of a list passes a test, all of each beginning of it does
 all_take : {A : Type 0} (p : A → Bool) (n : ℕ) (xs : List A) → list_all p xs ≡ true → list_all p (take n xs) ≡ true
 all_take p zero xs h = refl
 all_take p (suc n) [] h = refl

@@ -28,6 +28,7 @@ use Rattle.nt_verify.specs.Laws.{CallsAreExpected, CleanScriptsRefuseNothing, re
 use Rattle.nt_verify.specs.Sites.{commands_at, site_of, sites}
 use Rattle.nt_verify.specs.Walks.{expected_at}
 
+-- in a run each call is refused exactly as expected at its site, by that refusal and at that level
 pub calls_expected : CallsAreExpected
 calls_expected s limit e past n c y r k =
     let q : KnownCall s e.cpu (own_of s e.cpu past) (lanes_at s past) n c y = subst (λ (w : What). Known s e.cpu (own_of s e.cpu past) (lanes_at s past) w) k
@@ -44,20 +45,24 @@ calls_expected s limit e past n c y r k =
 
 -- ---- an empty list
 
+-- if two lists appended are empty, both are empty
 append_none : {A : Type 0} (xs ys : List A) → xs ++ ys ≡ [] → (xs ≡ []) × (ys ≡ [])
 append_none [] ys h = (refl, h)
 append_none (x ∷ xs) ys h = absurd cc
 
+-- if the lists made of all elements are empty together, the one made of each element is
 flat_none : {A B : Type 0} (f : A → List B) (xs : List A) (x : A) → flat_map f xs ≡ [] → Contains xs x → f x ≡ []
 flat_none f [] x h c = contains_none x c
 flat_none {A} {B} f (y ∷ xs) x h c =
     let b = append_none (f y) (flat_map f xs) h in
     elim (contains_cases y xs x c) [ inl e ↦ subst (λ (z : A). f z ≡ []) e b.0 | inr d ↦ flat_none f xs x b.1 d ]
 
+-- if an option put in front of a list leaves it empty, there is no option and the list is empty
 cons_none : {A : Type 0} (o : Option A) (xs : List A) → cons_option o xs ≡ [] → (o ≡ None) × (xs ≡ [])
 cons_none None xs h = (refl, h)
 cons_none (Some x) xs h = absurd cc
 
+-- if a filtering map of a list is empty, it gives nothing for each element
 filter_none : {A B : Type 0} (f : A → Option B) (xs : List A) (x : A) → filter_map f xs ≡ [] → Contains xs x → f x ≡ None
 filter_none f [] x h c = contains_none x c
 filter_none {A} {B} f (y ∷ xs) x h c =
@@ -77,6 +82,7 @@ found s x k c q level none site place e =
     let some : finding_at s x k ≡ as_finding x k (told (Refused q) level) = ap (as_finding x k) e in
     cc
 
+-- in a run of a script with no findings, no event refuses a call
 not_refused : (s : Script) (limit : ℕ) (e : Event) (past : List Event) → findings s ≡ [] → IsRun s limit (e ∷ past) → (w : What) → e.what ≡ w →
     refuses w ≡ false
 not_refused s limit e past none r (Call n c (Refused q)) k =
@@ -85,6 +91,7 @@ not_refused s limit e past none r (Call n c (Refused q)) k =
 not_refused s limit e past none r (Call n c y) k = refl
 not_refused s limit e past none r w k = refl
 
+-- a script in which nothing is found has no run with a refused command
 pub clean : CleanScriptsRefuseNothing
 clean s limit e [] none r c = contains_none e c
 clean s limit e (x ∷ past) none r c =

@@ -24,6 +24,7 @@ use Rattle.nt_verify.specs.Sites.{commands_at, first_frame, routine_at}
 use Rattle.nt_verify.specs.Steps.{found_in, has_lock_below}
 use Rattle.nt_verify.specs.Walks.{called_in, expected_at, expected_in, frame_at, refused_in, walked}
 
+-- the first frame of a site stands at place 0
 first_place : (s : Script) (x : Site) → (first_frame s x).place ≡ 0
 first_place s (at.Normal a) = refl
 first_place s x = refl
@@ -41,10 +42,12 @@ place_is s x cs i w h e =
 pub here : (cs : List Command) (i : ℕ) (c : Command) → i < length cs → c ≡ get_or cs i c → slice_get cs i ≡ Some c
 here cs i c h e = slice_get_read cs (length cs) i c refl h e
 
+-- a walk that has called the first commands has called one more once it calls the next one
 pub walk_more : (f : Frame) (cs : List Command) (i : ℕ) (c : Command) (w v : Frame) → slice_get cs i ≡ Some c → w ≡ walked f (take i cs) → v ≡ called_in w c →
     v ≡ walked f (take (i + 1) cs)
 walk_more f cs i c w v h e k = k ∙ (ap (λ (y : Frame). called_in y c) e ∙ sym (walked_more f cs i c h))
 
+-- the command read at a place of a list whose elements all pass a test passes it
 pub passes_here : (p : Command → Bool) (cs : List Command) (i : ℕ) (c : Command) → i < length cs → c ≡ get_or cs i c → AllPass p cs → p c ≡ true
 passes_here p cs i c h e a = subst (λ (y : Command). p y ≡ true) (sym e) (a i c h)
 
@@ -56,6 +59,7 @@ pub record Stands (s : Script) (x : Site) (cs : List Command) (i : ℕ) (c : Com
   pub walk : w ≡ frame_at s x i
   pub place : w.place ≡ i
 
+-- before the command of an iteration the walk is the site's frame at that place, with that many commands called
 pub stands : (s : Script) (x : Site) (cs : List Command) (i : ℕ) (c : Command) (w : Frame) → cs ≡ commands_at s x → i < length cs → c ≡ get_or cs i c →
     w ≡ walked (first_frame s x) (take i cs) → Stands s x cs i c w
 stands s x cs i c w same h e k =
@@ -65,6 +69,7 @@ stands s x cs i c w same h e k =
       place = place_is s x cs i w h k;
     }
 
+-- in a script that fits the place of a walk is below 8192 while a command is left
 pub few_places : (s : Script) (x : Site) (cs : List Command) (i : ℕ) (w : Frame) → fits s ≡ true → cs ≡ commands_at s x → i < length cs →
     w ≡ walked (first_frame s x) (take i cs) → w.place < 8192
 few_places s x cs i w fit same h k =
@@ -73,6 +78,7 @@ few_places s x cs i w fit same h k =
     let c = commands_few s (routine_at s x) fit in
     omega (arith, a, b, c)
 
+-- the command of an iteration names only a lock below 64, in a script that fits
 pub low_lock_here : (s : Script) (x : Site) (cs : List Command) (i : ℕ) (c : Command) → fits s ≡ true → cs ≡ commands_at s x → i < length cs →
     c ≡ get_or cs i c → has_lock_below 64 c ≡ true
 low_lock_here s x cs i c fit same h e =
@@ -86,6 +92,7 @@ expected_as x k o = option_map (λ e. record { site = x; place = k; refusal = e.
 abbrev refused_as : Site → ℕ → ℕ → Option Refusal → Option Finding
 refused_as x k level o = expected_as x k (option_map (λ r. record { refusal = r; level = level }) o)
 
+-- an optional refusal told with its site, place and IRQL is that of mapping the telling over the option
 refused_is : (x : Site) (k level : ℕ) (o : Option Refusal) → refused_as x k level o
     ≡ option_map (λ r. record { site = x; place = k; refusal = r; level = level }) o
 refused_is x k level None = refl
@@ -103,10 +110,12 @@ finding_is s x cs i c w h =
     ∙ (refused_is x i w.level (refused_in w c)
     ∙ ap (λ (n : ℕ). option_map (λ r. record { site = x; place = n; refusal = r; level = w.level }) (refused_in w c)) (sym h.place)))
 
+-- the locks rise at a place of the site exactly if they do at the command in the walk's frame
 pub rises_here : (s : Script) (x : Site) (cs : List Command) (i : ℕ) (c : Command) (w : Frame) → Stands s x cs i c w → rises_at s x i ≡ rises_in w c
 rises_here s x cs i c w h =
     ap (λ (o : Option Command). option_map_or (rises_in (frame_at s x i)) o true) h.there ∙ ap (λ (f : Frame). rises_in f c) (sym h.walk)
 
+-- what is expected at a place of the site is what is expected of its command in the walk's frame
 pub expected_here : (s : Script) (x : Site) (cs : List Command) (i : ℕ) (c : Command) (w : Frame) → cs ≡ commands_at s x → slice_get cs i ≡ Some c →
     w ≡ walked (first_frame s x) (take i cs) → expected_at s x i ≡ expected_in w c
 expected_here s x cs i c w same h k =

@@ -50,6 +50,7 @@ abbrev AllOfPart : Script → List Insert → Type 0
 AllOfPart s [] = Unit {0}
 AllOfPart s (x ∷ xs) = (x.part ≡ part_of s x.dpc) × AllOfPart s xs
 
+-- filtering pending inserts keeps that each has its DPC's part
 kept_parts : (s : Script) (test : Insert → Bool) (xs : List Insert) → AllOfPart s xs → AllOfPart s (filter test xs)
 kept_parts s test [] h = tt
 kept_parts s test (x ∷ xs) h = go (test x) (kept_parts s test xs h.1)
@@ -58,6 +59,7 @@ kept_parts s test (x ∷ xs) h = go (test x) (kept_parts s test xs h.1)
     go true k = (h.0, k)
     go false k = k
 
+-- after an event drops an insert, each pending insert still has its DPC's part
 dropped_parts : (s : Script) (p by : CpuNo) (w : What) (o : Option DpcNo) (objects : List ObjectState) (xs : List Insert) → AllOfPart s xs →
     AllOfPart s (drop_insert p by w o objects xs)
 dropped_parts s p by w None objects xs h = h
@@ -67,6 +69,7 @@ dropped_parts s p by w (Some d) objects xs h = go (is_queue (left_queue by w (ob
     go true = kept_parts s (λ x. not (is_of_dpc d x)) xs h
     go false = h
 
+-- after an event adds an insert, each pending insert still has its DPC's part
 added_parts : (s : Script) (p : CpuNo) (n : ℕ) (by : CpuNo) (o : Option DpcNo) (objects : List ObjectState) (xs : List Insert) → AllOfPart s xs →
     AllOfPart s (add_insert s p n by o objects xs)
 added_parts s p n by None objects xs h = h
@@ -76,6 +79,7 @@ added_parts s p n by (Some d) objects xs h = go ((queue_for (object_in objects d
     go true = (refl, h)
     go false = h
 
+-- each insert that is pending after a history has the part that the script declares for its DPC
 pending_parts : (s : Script) (p : CpuNo) (past : List Event) → AllOfPart s (pending s p past)
 pending_parts s p [] = tt
 pending_parts s p (e ∷ past) =
@@ -83,11 +87,13 @@ pending_parts s p (e ∷ past) =
     (drop_insert p e.cpu e.what (used_up_dpc e.what) (objects_at s past) (pending s p past))
     (dropped_parts s p e.cpu e.what (used_up_dpc e.what) (objects_at s past) (pending s p past) (pending_parts s p past))
 
+-- an insert in a list where each has its DPC's part has that part too
 part_there : (s : Script) (xs : List Insert) (x : Insert) → AllOfPart s xs → Contains xs x → x.part ≡ part_of s x.dpc
 part_there s [] x h c = contains_none x c
 part_there s (y ∷ xs) x h c =
     elim (contains_cases y xs x c) [ inl e ↦ subst (λ (z : Insert). z.part ≡ part_of s z.dpc) e h.0 | inr d ↦ part_there s xs x h.1 d ]
 
+-- two parts that test as the same are equal
 part_is : (a b : Part) → same_part a b ≡ true → b ≡ a
 part_is OrdinaryPart OrdinaryPart h = refl
 part_is ThreadedPart ThreadedPart h = refl
@@ -107,6 +113,7 @@ begun_part s p past part d from below k =
 
 -- ---- the own part
 
+-- after an event of a run, each of the processor's own frames still stands as its walk does
 own_after_agrees : (s : Script) (limit : ℕ) (p : CpuNo) (past : List Event) (r : IsRun s limit past) (below : p.0 < s.cpus) (n : ℕ) (due : Option ℕ) (w : What)
     (gs : List Frame) →
     own_frames p past ≡ gs → (is_next w ≡ true → Known s p (own_of s p past) (lanes_at s past) w) → Each (Agrees s p) gs →
@@ -130,6 +137,7 @@ own_after_agrees s limit p past r below n due (Free i c) gs o k h =
 own_after_agrees s limit p past r below n due (End i) gs o k h = without_each (Agrees s p) i gs h
 own_after_agrees s limit p past r below n due w gs o k h = h
 
+-- in a run each frame on the processor's own part stands as the walk of its site does
 pub own_agrees : (s : Script) (limit : ℕ) (p : CpuNo) (past : List Event) → IsRun s limit past → Each (Agrees s p) (own_frames p past)
 own_agrees s limit p [] r = tt
 own_agrees s limit p (e ∷ past) r = go (is_of e p) refl (own_agrees s limit p past r.1)
@@ -145,6 +153,7 @@ own_agrees s limit p (e ∷ past) r = go (is_of e p) refl (own_agrees s limit p 
 
 -- ---- the part of a thread
 
+-- a property that a change of a frame keeps is kept by the change of the frame with a given name
 named_each : (P : Frame → Type 0) (n : ℕ) (g : Frame → Frame) (fs : List Frame) → ((f : Frame) → P f → P (g f)) → Each P fs → Each P (at_name n g fs)
 named_each P n g [] i h = h
 named_each P n g (f ∷ fs) i h = (go (f.name == n), h.1)
@@ -164,16 +173,19 @@ inner_each P x n m g i (f ∷ fs) inner named q e d h = (go (f.name == n) refl, 
         let same : i ≡ f = head_is x n m i f fs inner named e d (eqb-true f.name n z) in subst (λ (j : Frame). P (g j)) same (q (subst P (sym same) h.0))
     go false z = h.0
 
+-- after an APC is flushed, each frame of the thread still stands as its walk does
 flushed_agrees : (s : Script) (p : CpuNo) (n : ℕ) (a : ApcNo) (o : Option RoutineNo) (fs : List Frame) → Each (Agrees s p) fs →
     Each (Agrees s p) (flushed n a o fs)
 flushed_agrees s p n a None fs h = h
 flushed_agrees s p n a (Some r) fs h = (new_agrees s p n (on.Rundown a) tt refl, h)
 
+-- after a switch to a thread, each of its frames still stands as its walk does
 switched_agrees : (s : Script) (p : CpuNo) (n : ℕ) (t : ThreadNo) (status : Option ℕ) (fs : List Frame) → Each (Agrees s p) fs →
     Each (Agrees s p) (switched_to n t status fs)
 switched_agrees s p n t status [] h = (new_agrees s p n (on.Base t) tt refl, tt)
 switched_agrees s p n t status (f ∷ fs) h = (resumed_agrees s p status f h.0, h.1)
 
+-- after the innermost frame of a thread ends, each frame left still stands as its walk does
 end_agrees : (s : Script) (p : CpuNo) (n : ℕ) (fs : List Frame) → Each (Agrees s p) fs → Each (Agrees s p) (end_on_thread n fs)
 end_agrees s p n [] h = h
 end_agrees s p n (f ∷ fs) h = go (f.name == n) (is_base_body f.body) refl
@@ -220,6 +232,7 @@ module _ (s : Script) (limit : ℕ) (p : CpuNo) where
       subst (Each (Agrees s p)) (sym moved) (thread_after_agrees past r (length past) (length past) (due_of e.what (time past)) e.what
       (thread_frames s p t past) (known_there s limit p t e past o b g r) (all_named s p t past) ih)
 
+  -- in a run each frame of a thread stands as the walk of its site does
   pub thread_agrees : (t : ThreadNo) (past : List Event) → IsRun s limit past → Each (Agrees s p) (thread_frames s p t past)
   thread_agrees t [] r = tt
   thread_agrees t (e ∷ past) r =
@@ -227,10 +240,12 @@ module _ (s : Script) (limit : ℕ) (p : CpuNo) where
 
 -- ---- the innermost frame
 
+-- if each frame of a list stands as its walk does, so does the first
 first_agrees : (s : Script) (p : CpuNo) (fs : List Frame) (f : Frame) → Each (Agrees s p) fs → head_of fs ≡ Some f → Agrees s p f
 first_agrees s p [] f h e = cc
 first_agrees s p (g ∷ fs) f h e = let same : g ≡ f = cc in subst (Agrees s p) same h.0
 
+-- in a run the innermost frame of a processor stands as the walk of its site does
 pub inner_agrees : (s : Script) (limit : ℕ) (p : CpuNo) (past : List Event) (f : Frame) → IsRun s limit past → innermost (frames_of s p past) ≡ Some f →
     Agrees s p f
 inner_agrees s limit p past f r h = go (own_frames p past) refl

@@ -44,12 +44,14 @@ use Rattle.nt_verify.specs.Walks.{is_own, refused_in, regions_in}
 
 -- ---- lists
 
+-- if all of a list passes a test, each element of it does
 all_there : {A : Type 0} (p : A → Bool) (xs : List A) (x : A) → list_all p xs ≡ true → Contains xs x → p x ≡ true
 all_there p [] x h c = contains_none x c
 all_there {A} p (y ∷ xs) x h c =
     let b = both (p y) (list_all p xs) h in
     elim (contains_cases y xs x c) [ inl e ↦ subst (λ (z : A). p z ≡ true) e b.0 | inr d ↦ all_there p xs x b.1 d ]
 
+-- a lock that is among held ones is below each lock that is above all of them
 above_held : (j k : LockNo) (hs : List Held) → is_above k hs ≡ true → among j hs ≡ true → j.0 < k.0
 above_held j k [] a h = cc
 above_held j k (x ∷ hs) a h = go (x.lock.0 == j.0) refl h (λ m. above_held j k hs (both _ _ a).1 m)
@@ -58,9 +60,11 @@ above_held j k (x ∷ hs) a h = go (x.lock.0 == j.0) refl h (λ m. above_held j 
     go true e m ih = let n = eqb-true x.lock.0 j.0 e in let l = ltb-true x.lock.0 k.0 (both _ _ a).0 in omega (arith, n, l)
     go false e m ih = ih m
 
+-- false is not true, so whatever is asked follows if they are equal
 no_bool : {A : Type 0} → false ≡ true → A
 no_bool h = cc
 
+-- if a disjunction is true and its first part is false, its second part is true
 or_second : (a b : Bool) → a ≡ false → (a || b) ≡ true → b ≡ true
 or_second true b e h = cc
 or_second false b e h = h
@@ -169,5 +173,6 @@ module _ (s : Script) (limit : ℕ) (past : List Event) (fit : fits s ≡ true) 
         go false e = e
         go true e = absurd (chain s.locks p h (spinner p e) (omega arith))
 
+-- if locks are acquired in rising order, no processor spins after a settled run in which none is cut
 pub ordered_spin_nowhere : OrderedScriptsSpinNowhere
 ordered_spin_nowhere s limit p past fit ordered r settled uncut h = none_spins s limit past fit ordered r settled uncut p h

@@ -33,6 +33,7 @@ use Rattle.nt_verify.specs.Sites.{thread_sites}
 
 -- ---- lists
 
+-- what a piece of one element of a list contains, all the pieces together contain
 pub flat_contains : {A B : Type 0} (f : A → List B) (xs : List A) (x : A) (y : B) → Contains xs x → Contains (f x) y → Contains (flat_map f xs) y
 flat_contains f [] x y h k = contains_none x h
 flat_contains {A} {B} f (z ∷ xs) x y h k =
@@ -41,10 +42,12 @@ flat_contains {A} {B} f (z ∷ xs) x y h k =
       | inr d ↦ Contains-append_right (f z) (flat_map f xs) y (flat_contains f xs x y d k)
     ]
 
+-- an option that is equal to some value is there
 some_when : {A : Type 0} (o : Option A) (x : A) → o ≡ Some x → is_some o ≡ true
 some_when None x h = cc
 some_when (Some y) x h = refl
 
+-- an index at which a list has an element is below its length
 within_when : {A : Type 0} (xs : List A) (i : ℕ) → is_some (slice_get xs i) ≡ true → i < length xs
 within_when {A} xs i h = go (slice_get xs i) refl h
   where
@@ -52,40 +55,48 @@ within_when {A} xs i h = go (slice_get xs i) refl h
     go None e k = cc
     go (Some x) e k = slice_get_within xs i x e
 
+-- if a mapped option is there, the option was there
 mapped_some : {A B : Type 0} (f : A → B) (o : Option A) → is_some (option_map f o) ≡ true → is_some o ≡ true
 mapped_some f None h = cc
 mapped_some f (Some x) h = refl
 
+-- if an option followed by a further look-up is there, the option was there
 then_some : {A B : Type 0} (f : A → Option B) (o : Option A) → is_some (option_and_then f o) ≡ true → is_some o ≡ true
 then_some f None h = cc
 then_some f (Some x) h = refl
 
+-- if the routine of an optional APC declaration is there, the declaration is
 apc_some : (k : Bool) (o : Option ApcDecl) → is_some (apc_routine k o) ≡ true → is_some o ≡ true
 apc_some k None h = cc
 apc_some k (Some x) h = refl
 
 -- ---- each kind of site
 
+-- each site of an ISR is one of the script's sites
 in_isrs : (s : Script) (x : Site) → Contains (map isr_site s.isrs) x → Contains (sites s) x
 in_isrs s x h =
     Contains-append_left ((map isr_site s.isrs ++ dpc_sites s) ++ thread_sites s) (flat_map (apc_sites s) (table (length s.apcs) apc)) x
     (Contains-append_left (map isr_site s.isrs ++ dpc_sites s) (thread_sites s) x (Contains-append_left (map isr_site s.isrs) (dpc_sites s) x h))
 
+-- each site of a DPC is one of the script's sites
 in_dpcs : (s : Script) (x : Site) → Contains (dpc_sites s) x → Contains (sites s) x
 in_dpcs s x h =
     Contains-append_left ((map isr_site s.isrs ++ dpc_sites s) ++ thread_sites s) (flat_map (apc_sites s) (table (length s.apcs) apc)) x
     (Contains-append_left (map isr_site s.isrs ++ dpc_sites s) (thread_sites s) x (Contains-append_right (map isr_site s.isrs) (dpc_sites s) x h))
 
+-- each site of a thread is one of the script's sites
 in_threads : (s : Script) (x : Site) → Contains (thread_sites s) x → Contains (sites s) x
 in_threads s x h =
     Contains-append_left ((map isr_site s.isrs ++ dpc_sites s) ++ thread_sites s) (flat_map (apc_sites s) (table (length s.apcs) apc)) x
     (Contains-append_right (map isr_site s.isrs ++ dpc_sites s) (thread_sites s) x h)
 
+-- each site of a declared APC is one of the script's sites
 in_apcs : (s : Script) (a : ApcNo) (x : Site) → a.0 < length s.apcs → Contains (apc_sites s a) x → Contains (sites s) x
 in_apcs s a x l h =
     Contains-append_right ((map isr_site s.isrs ++ dpc_sites s) ++ thread_sites s) (flat_map (apc_sites s) (table (length s.apcs) apc)) x
     (flat_contains (apc_sites s) (table (length s.apcs) apc) a x (table_contains (length s.apcs) a.0 apc l) h)
 
+-- the site of an ISR that is declared for a processor and level is one of the script's
 isr_declared : (s : Script) (p : CpuNo) (level : ℕ) → is_some (isr_of s.isrs p level) ≡ true → Contains (sites s) (at.Isr p level)
 isr_declared s p level h = go (find (is_isr_of p level) s.isrs) refl (mapped_some (λ isr. isr.routine) (find (is_isr_of p level) s.isrs) h)
   where
@@ -98,25 +109,30 @@ isr_declared s p level h = go (find (is_isr_of p level) s.isrs) refl (mapped_som
         let same : isr_site isr ≡ at.Isr p level = ap (λ (q : CpuNo). at.Isr q isr.level) c ∙ ap (λ (n : ℕ). at.Isr p n) (eqb-true isr.level level b.1) in
         in_isrs s (at.Isr p level) (subst (λ (x : Site). Contains (map isr_site s.isrs) x) same (contains_mapped isr_site s.isrs isr found.0))
 
+-- the site of a declared DPC is one of the script's
 dpc_declared : (s : Script) (d : DpcNo) (x : Site) → d.0 < length s.dpcs → dpc_site s d ≡ x → Contains (sites s) x
 dpc_declared s d x l e =
     in_dpcs s x (subst (λ (y : Site). Contains (dpc_sites s) y) e (table_contains (length s.dpcs) d.0 (λ i. dpc_site s (dpc i)) l))
 
+-- the site of an APC's kernel routine is among the APC's sites
 kernel_in : (s : Script) (a : ApcNo) → Contains (apc_sites s a) (at.Kernel a)
 kernel_in s a =
     Contains-append_left (at.Kernel a ∷ [] ++ site_if (has_normal s a) (at.Normal a)) (site_if (is_some (rundown_of s a)) (at.Rundown a)) (at.Kernel a)
     (Contains-append_left (at.Kernel a ∷ []) (site_if (has_normal s a) (at.Normal a)) (at.Kernel a) (contains_here (at.Kernel a) []))
 
+-- the site of an APC's normal routine is among the APC's sites, if it has one
 normal_in : (s : Script) (a : ApcNo) → has_normal s a ≡ true → Contains (apc_sites s a) (at.Normal a)
 normal_in s a h =
     Contains-append_left (at.Kernel a ∷ [] ++ site_if (has_normal s a) (at.Normal a)) (site_if (is_some (rundown_of s a)) (at.Rundown a)) (at.Normal a)
     (Contains-append_right (at.Kernel a ∷ []) (site_if (has_normal s a) (at.Normal a)) (at.Normal a) (rw h (contains_here (at.Normal a) [])))
 
+-- the site of an APC's rundown routine is among the APC's sites, if it has one
 rundown_in : (s : Script) (a : ApcNo) → is_some (rundown_of s a) ≡ true → Contains (apc_sites s a) (at.Rundown a)
 rundown_in s a h =
     Contains-append_right (at.Kernel a ∷ [] ++ site_if (has_normal s a) (at.Normal a)) (site_if (is_some (rundown_of s a)) (at.Rundown a)) (at.Rundown a)
     (rw h (contains_here (at.Rundown a) []))
 
+-- the site of a body of the part declared is one of the script's, if a routine is declared there
 by_body : (s : Script) (p : CpuNo) (b : Body) (k : Bool) → IsOfPart s b → is_some (routine_at s (site_in p k b)) ≡ true → Contains (sites s) (site_in p k b)
 by_body s p (on.Int level) k q h = isr_declared s p level h
 by_body s p (on.Dpc d) k q h =
@@ -133,10 +149,12 @@ by_body s p (on.Base t) k q h =
 by_body s p (on.Rundown a) k q h =
     in_apcs s a (at.Rundown a) (within_when s.apcs a.0 (then_some (λ x. x.rundown) (slice_get s.apcs a.0) h)) (rundown_in s a h)
 
+-- a routine that has a command at some place is declared
 routine_when : (s : Script) (o : Option RoutineNo) (i : ℕ) (c : Command) → slice_get (commands_of s o) i ≡ Some c → is_some o ≡ true
 routine_when s None i c h = absurd cc
 routine_when s (Some r) i c h = refl
 
+-- the site of a frame that has a next command is one of the script's sites
 pub declared : (s : Script) (p : CpuNo) (f : Frame) (c : Command) → Agrees s p f → next_command s p f ≡ Some c → Contains (sites s) (site_of p f)
 declared s p f c a h =
     by_body s p f.body f.kernel_phase a.part (routine_when s (routine_at s (site_of p f)) f.place c (next_at s p f c h))

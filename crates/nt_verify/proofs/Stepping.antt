@@ -25,6 +25,7 @@ pub record Walks (w f : Frame) : Type 0 where
   pub quiet : w.spin ≡ None
   pub low : is_some f.spin ≡ true → w.level ≤ 2
 
+-- a case in which false equals true can't be, so it gives anything
 no_bool : {A : Type 0} → false ≡ true → A
 no_bool h = cc
 
@@ -32,9 +33,11 @@ no_bool h = cc
 pub level_same : (w f : Frame) → Walks w f → f.spin ≡ None → w.level ≡ f.level
 level_same w f h e = h.level ∙ ap (λ (o : Option Held). option_map_or (λ a. a.kept) o f.level) e
 
+-- a walk and its frame have the same IRQL, taken before the spin if the frame spins
 kept_same : (w f : Frame) → Walks w f → kept_in w ≡ kept_in f
 kept_same w f h = ap (λ (o : Option Held). option_map_or (λ a. a.kept) o w.level) h.quiet ∙ h.level
 
+-- a walk and its frame go to the same IRQL when a lock is freed, if the frame does not spin
 freed_same : (w f : Frame) → Walks w f → f.spin ≡ None → freed_level w ≡ freed_level f
 freed_same w f h e =
     ap (λ (hs : List Held). option_map_or (λ a. a.kept) (head_of hs) w.level) h.held
@@ -181,6 +184,7 @@ bare : Frame → Frame → Frame
 bare w f =
     record w { body = f.body; kernel_phase = f.kernel_phase; crit = f.crit; guard = f.guard; held = f.held; level = f.level }
 
+-- a walk is unchanged by taking over its frame's body, regions, locks and IRQL, if the frame does not spin
 is_bare : (w f : Frame) → Walks w f → f.spin ≡ None → w ≡ bare w f
 unfolding bare
 is_bare w f h e = λ i. record w {
@@ -192,6 +196,7 @@ is_bare w f h e = λ i. record w {
   level = level_same w f h e i;
 }
 
+-- a walk that took over a frame's body, regions, locks and IRQL refuses the same calls as the frame
 bare_refused : (w f : Frame) (c : Command) → refused_in (bare w f) c ≡ refused_in f c
 unfolding bare
 bare_refused w f (Raise l) = refl

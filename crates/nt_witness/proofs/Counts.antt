@@ -25,13 +25,16 @@ use Rattle.nt_witness.specs.Limits.{count_of, most_of}
 abbrev pub one_of : CpuNo → Turn → ℕ
 one_of p t = cond ((cpu_at t).0 == p.0) 1 0
 
+-- a turn counts as one for the processor that takes it
 pub own_turn : (t : Turn) → one_of (cpu_at t) t ≡ 1
 own_turn t = ap (λ (b : Bool). cond b 1 0) (same (cpu_at t).0)
 
+-- a turn at the front of a list adds to a processor's count if that processor takes it
 pub count_more : (p : CpuNo) (t : Turn) (turns : List Turn) → count_of p (t ∷ turns) ≡ one_of p t + count_of p turns
 count_more p t turns =
     sum_by-append (one_of p) (t ∷ []) turns ∙ ap (λ (n : ℕ). n + count_of p turns) (zero-add (one_of p t))
 
+-- a turn at the end of a list adds to a processor's count if that processor takes it
 pub count_last : (p : CpuNo) (t : Turn) (turns : List Turn) → count_of p (turns ++ t ∷ []) ≡ count_of p turns + one_of p t
 count_last p t turns =
     sum_by-append (one_of p) turns (t ∷ []) ∙ ap (λ (n : ℕ). count_of p turns + n) (zero-add (one_of p t))
@@ -95,9 +98,11 @@ pub record IsTally (turns : List Turn) (counts : List ℕ) (most : ℕ) : Type 0
   pub each : (p : ℕ) → p < 256 → get_or counts p 0 ≡ count_of (cpu p) turns
   pub greatest : most ≡ most_of turns
 
+-- before any turn is counted, the count of each of 256 processors is zero and so is the most
 pub no_tally : (most : ℕ) → most ≡ 0 → IsTally [] (replicate 256 0) most
 no_tally most e = record { all = length-replicate {A = ℕ} 256 0; each = λ p low. get_or-replicate {A = ℕ} 256 p 0 0 low; greatest = e }
 
+-- the greater of two numbers by their order is their maximum
 max_is : (a b : ℕ) → ord_max nat_cmp a b ≡ max a b
 max_is a b = search rules
 
@@ -137,6 +142,7 @@ tally_more turns t counts most i new tally e low n = record {
         let set_else = get_or-set_other counts i p (get_or counts i 0 + 1) 0 elsewhere in
         omega (arith, none, last, before, set_else)
 
+-- the counts after the next turn of a list is counted are those of one more turn, with the most of them
 pub tally_next : (turns : List Turn) (i : ℕ) (d : Turn) (p : CpuNo) (counts : List ℕ) (most n new : ℕ) → IsTally (take i turns) counts most →
     i < length turns → p ≡ cpu_at (get_or turns i d) → n ≡ p.0 → p.0 < 256 →
     new ≡ ord_max nat_cmp most (get_or (set counts n (get_or counts n 0 + 1)) n 0) →
@@ -147,6 +153,7 @@ tally_next turns i d p counts most n new tally inside q m low greatest =
 
 -- ---- events
 
+-- the events that a processor made in two lists put together are those of the one and of the other
 pub made_append : (p : CpuNo) (xs ys : List Event) → made p (xs ++ ys) ≡ made p xs + made p ys
 made_append p [] ys = sym (zero-add (made p ys))
 made_append p (e ∷ xs) ys = go (is_of e p) (made_append p xs ys)

@@ -22,6 +22,7 @@ one_true n q f low h =
     let long = length-table_from 0 n f in
     list_any_at (λ b. b) (table n f) q false (omega (arith, long, low)) (get_or-table n q f false low ∙ h)
 
+-- a table that is false at each place has no place that is true
 none_from : (k n : ℕ) (f : ℕ → Bool) → ((i : ℕ) → i < n → f (k + i) ≡ false) → list_any (λ b. b) (table_from k n f) ≡ false
 unfolding table_from
 none_from k zero f h = refl
@@ -43,10 +44,12 @@ module _ (limit p n m : ℕ) (rises : List Rises) (briefs : List Brief) (events 
   its : made (cpu p) (reverse events) ≡ m
   its = ap (λ (es : List Event). made (cpu p) (reverse es)) (sym are) ∙ (made_briefs p rises briefs ∙ sym b)
 
+  -- a processor that made as many events as the limit makes the run cut
   pub cut_at : (s : Script) → p < s.cpus → n ≤ m → some_is_cut s limit (reverse events) ≡ true
   cut_at s low h =
       one_true s.cpus p (λ q. nat_le limit (made (cpu q) (reverse events))) low (le-leb limit (made (cpu p) (reverse events)) (omega (arith, a, its, h)))
 
+  -- a processor that made fewer events than the limit is not cut, and neither are those before it
   pub before : m < n → ((q : ℕ) → q < p → nat_le limit (made (cpu q) (reverse events)) ≡ false) → (q : ℕ) → q < p + 1 →
       nat_le limit (made (cpu q) (reverse events)) ≡ false
   before h none q low = go (q == p) refl
@@ -58,6 +61,7 @@ module _ (limit p n m : ℕ) (rises : List Rises) (briefs : List Brief) (events 
           (lt-leb limit (made (cpu p) (reverse events)) (omega (arith, a, its, h)))
       go false e = none q (let other = eqb-false q p e in omega (arith, other, low))
 
+-- if no processor below the number of processors has reached the limit, none is cut
 pub none_is_cut : (s : Script) (limit p : ℕ) (past : List Event) → s.cpus ≤ p → ((q : ℕ) → q < p → nat_le limit (made (cpu q) past) ≡ false) →
     some_is_cut s limit past ≡ false
 none_is_cut s limit p past most h =

@@ -35,16 +35,19 @@ free_turn : (s : Script) (t : Turn) (past : List Event) (e : Event) → free_ste
 free_turn s t past e h =
     turn_same s (suc (made (cpu_at t) past)) t past e (step_free s (suc (made (cpu_at t) past)) t past (omega arith) ∙ h)
 
+-- a turn taken freely makes an event of the turn's processor
 free_cpu : (s : Script) (t : Turn) (past : List Event) (e : Event) → free_step s t past ≡ Ok e → cpu_at t ≡ e.cpu
 free_cpu s t past e h =
     ap (λ (f : Event). f.cpu)
     (turn_gives s (suc (made (cpu_at t) past)) t past e (step_free s (suc (made (cpu_at t) past)) t past (omega arith) ∙ h))
 
+-- the turns of a history with one event more are those of before and then that event's turn
 turns_then : (e : Event) (past : List Event) (ts : List Turn) → turns_of (e ∷ past) ++ ts ≡ turns_of past ++ turn_of e ∷ ts
 turns_then e past ts =
     ap (λ (x : List Turn). x ++ ts) (ap (map turn_of) (reverse-append (e ∷ []) past) ∙ map_push turn_of (reverse past) e)
     ∙ append_assoc (turns_of past) (turn_of e ∷ []) ts
 
+-- the turns of a history to which turns lead are those of before and then these
 lead_from : (s : Script) (turns : List Turn) (past h : List Event) → Lead s turns past h → turns_of h ≡ turns_of past ++ turns
 lead_from s [] past h lead = ap turns_of (sym lead) ∙ sym (append-nil (turns_of past))
 lead_from s (t ∷ turns) past h lead =
@@ -62,6 +65,7 @@ pub record IsOnWay (s : Script) (all rest : List Turn) (past h : List Event) : T
   pub lead : Lead s rest past h
   pub counts : (p : CpuNo) → made p past + count_of p rest ≡ count_of p all
 
+-- before any turn is taken, all turns are still to be taken on the way to the history
 pub way_start : (s : Script) (all : List Turn) (h : List Event) → Lead s all [] h → IsOnWay s all all [] h
 way_start s all h lead = record { lead = lead; counts = λ p. zero-add (count_of p all) }
 
@@ -125,6 +129,7 @@ pub record HasBegun (s : Script) (limit : ℕ) (all rest : List Turn) (now : Cor
   pub limit_is : now.limit ≡ limit
   pub way : (h : List Event) → Lead s all [] h → IsOnWay s all rest now.past h
 
+-- a machine with no event yet has taken none of the turns that lead to a history
 pub not_begun : (s : Script) (limit : ℕ) (all : List Turn) (now : CoreState) → now ≡ record { script = s; limit = limit; past = [] } →
     HasBegun s limit all all now
 not_begun s limit all now e = record {

@@ -13,6 +13,7 @@ use Rattle.nt_witness.specs.Limits.{completed, least_limit, most_of, serves, som
 abbrev pub IsInRange : Script → ℕ → Type 0
 IsInRange s limit = (1 ≤ limit) × (limit ≤ turn_bound s.cpus)
 
+-- the turn bound of a script is at least 1
 bound_some : (s : Script) → 1 ≤ turn_bound s.cpus
 bound_some s = go (nat_le s.cpus 8)
   where
@@ -30,6 +31,7 @@ module _ (s : Script) (turns : List Turn) (h : List Event) (room : most_of turns
   usual : IsInRange s (usual_limit s)
   usual = let some = bound_some s in (omega (arith, some), omega arith)
 
+  -- the limit of a witness is at least 1 and at most the bound of the script, if the bound has room for the turns
   pub limit_in_range : (endless : Bool) → IsInRange s (witness_limit s endless turns h)
   limit_in_range true = least
   limit_in_range false = first (serves s turns h (usual_limit s))
@@ -51,6 +53,7 @@ module _ (s : Script) (turns : List Turn) (h : List Event) where
   served limit e =
       inl (not_true (some_is_cut s limit (completed s limit h)) (both (nat_le (most_of turns) limit) (not (some_is_cut s limit (completed s limit h))) e).1)
 
+  -- at the limit of a witness no processor is cut at the end, or that limit is the least one for the turns
   pub limit_ends : (endless : Bool) → Ends s turns h (witness_limit s endless turns h)
   limit_ends true = inr refl
   limit_ends false = first (serves s turns h (usual_limit s)) refl

@@ -17,6 +17,7 @@ use Rattle.nt_witness.specs.Machines.{IsTaken}
 abbrev further : Script → ℕ → List Event → List Event
 further s limit past = robin_grown s limit past (robin s limit past)
 
+-- running with one turn more is going one turn further from where the run with fewer turns stands
 last_too : (s : Script) (limit n : ℕ) (past : List Event) → run_fuel s limit (suc n) past ≡ further s limit (run_fuel s limit n past)
 last_too s limit zero past = refl
 last_too s limit (suc n) past = last_too s limit n (further s limit past)
@@ -41,6 +42,7 @@ pub record HasGone (s : Script) (limit : ℕ) (h past : List Event) : Type 0 whe
   pub is : run_fuel s limit count h ≡ past
   pub few : count ≤ length past
 
+-- with no event of the robin rule a history stays as it is
 pub not_gone : (s : Script) (limit : ℕ) (h : List Event) → HasGone s limit h h
 not_gone s limit h = record { count = 0; is = refl; few = omega arith }
 
@@ -74,6 +76,7 @@ pub record IsGoing (begin now : CoreState) : Type 0 where
   pub run : IsRun begin.script begin.limit now.past
   pub few : length now.past ≤ begin.script.cpus * begin.limit
 
+-- a machine that has made no step yet has gone on by the robin rule from where it stands
 pub not_going : (begin : CoreState) → IsRun begin.script begin.limit begin.past → length begin.past ≤ begin.script.cpus * begin.limit → IsGoing begin begin
 not_going begin run few = record { script = refl; limit = refl; gone = not_gone begin.script begin.limit begin.past; run = run; few = few }
 

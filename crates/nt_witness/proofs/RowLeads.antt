@@ -15,9 +15,11 @@ use Rattle.nt_witness.specs.Leads.{Lead}
 abbrev pub first_turns : List Turn
 first_turns = Switch (cpu 0) (thread 0) ∷ Next (cpu 0) ∷ []
 
+-- the first two turns of the worked row raise-queue-lower lead from the start to the raised history
 row_leads : Lead script first_turns [] raised
 unfolding table_from
 row_leads = (_, refl, (_, refl, refl))
 
+-- the first two turns of the worked row raise-queue-lower lead from the start to some history
 pub first_turns_lead : (s : Script) → s ≡ script → (h : List Event) × Lead s first_turns [] h
 first_turns_lead s e = (raised, subst (λ (x : Script). Lead x first_turns [] raised) (sym e) row_leads)

@@ -18,6 +18,7 @@ use Rattle.nt_words.specs.Parser.{ntrun_app}
 use Rattle.nt_words.specs.Refusals.{IsNoForm, OnNoForm}
 use Rattle.nt_words.proofs.Whole.{form_is_taken, taken_is_form}
 
+-- if the words are tidy and the parser finds no fault, the form that is chosen is the words' form
 pub form_answered : (words : List (List ℕ)) (o : Option Form) → is_tidy words ≡ true → fault_of ntrun_app words ≡ [] → o ≡ chosen (matches_of ntrun_app words)
     → IfOk (ok_or o NoForm) (IsForm words)
 form_answered words None tidy fault is = tt
@@ -25,14 +26,17 @@ form_answered words (Some f) tidy fault is = taken_is_form words f tidy fault (s
 
 -- ---- the numbers of a form
 
+-- the number that is given as turns is in range
 turns_within : (n : ℕ) (ps : List Piece) → HasTurns n ps → IsTurns n
 turns_within n ps (inl given) = (given.1, given.2)
 turns_within n ps (inr missing) = rw (missing.1) (omega arith, omega arith)
 
+-- the number that is given as workers is in range
 workers_within : (n : ℕ) (ps : List Piece) → HasWorkers n ps → IsWorkers n
 workers_within n ps (inl given) = (given.1, given.2)
 workers_within n ps (inr missing) = rw (missing.1) (omega arith, omega arith)
 
+-- the numbers of a form are in range, if the pieces have its options
 within : (f : Form) (ps : List Piece) → HasOptions f ps → IsWithin f
 within (form.Run turns) ps has = turns_within turns ps has.turns
 within (form.Live turns) ps has = turns_within turns ps has.turns
@@ -44,12 +48,14 @@ within (form.Shrink goal) ps has = has.goal.1
 within (form.Audit turns workers) ps has = (turns_within turns ps has.turns, workers_within workers ps has.workers)
 within (form.Load seed turns) ps has = (has.1.2, turns_within turns ps has.0)
 
+-- the numbers of the words' form are in their ranges
 pub form_within : (words : List (List ℕ)) (r : Result Form WordsRefusal) → IfOk r (IsForm words) → IfOk r IsWithin
 form_within words (Ok f) is = within f is.pieces is.options
 form_within words (Err e) is = tt
 
 -- ---- no form
 
+-- if the parser's matches choose no form, the words are no form
 pub no_form_answered : (words : List (List ℕ)) (o : Option Form) → o ≡ chosen (matches_of ntrun_app words) → OnNoForm (ok_or o NoForm) (IsNoForm words)
 no_form_answered words (Some f) is = tt
 no_form_answered words None is = λ f form.
@@ -58,6 +64,7 @@ no_form_answered words None is = λ f form.
 
 -- ---- the forms `live` and `audit`
 
+-- if the second of two flags implies a third, the first or the second implies the first or the third
 or_more : (a b c : Bool) → (b ≡ true → c ≡ true) → (a || b) ≡ true → (a || c) ≡ true
 or_more a b c more h = go (or_cases a b h)
   where
@@ -80,6 +87,7 @@ pub live_is_named : (words : List (List ℕ)) (turns : ℕ) → IsForm words (fo
 live_is_named words turns is =
     ap names_live is.spelled ∙ words_name is.pieces (ap (list_any is_live_word) is.command)
 
+-- one of the words of a form of an audit is `live` or `audit`
 pub audit_is_named : (words : List (List ℕ)) (turns workers : ℕ) → IsForm words (form.Audit turns workers) → names_live words ≡ true
 audit_is_named words turns workers is =
     ap names_live is.spelled ∙ words_name is.pieces (ap (list_any is_live_word) is.command)

@@ -23,12 +23,14 @@ pub record AreOnce (ps : List Piece) : Type 0 where
   pub command : length (command_words ps) ≤ 1
   pub option : (name : OptionName) → length (values_of name ps) ≤ 1
 
+-- the command words of pieces put together are those of the first pieces and then of the others
 pub command_words-append : (ps qs : List Piece) → command_words (ps ++ qs) ≡ command_words ps ++ command_words qs
 command_words-append [] qs = refl
 command_words-append (word w ∷ ps) qs = ap (λ (ws : List (List ℕ)). w ∷ ws) (command_words-append ps qs)
 command_words-append (apart name value ∷ ps) qs = command_words-append ps qs
 command_words-append (joined name value ∷ ps) qs = command_words-append ps qs
 
+-- putting an option's value before joined lists of values is putting it before the first of them
 value_for-append : (name given : OptionName) (value : List ℕ) (vs ws : List (List ℕ))
     → value_for name given value (vs ++ ws) ≡ value_for name given value vs ++ ws
 value_for-append name given value vs ws = go (same_option name given) refl
@@ -37,6 +39,7 @@ value_for-append name given value vs ws = go (same_option name given) refl
     go true is = rw is refl
     go false is = rw is refl
 
+-- the values that an option is given in pieces put together are those of the first and then of the others
 pub values_of-append : (name : OptionName) (ps qs : List Piece) → values_of name (ps ++ qs) ≡ values_of name ps ++ values_of name qs
 values_of-append name [] qs = refl
 values_of-append name (word w ∷ ps) qs = values_of-append name ps qs
@@ -47,23 +50,27 @@ values_of-append name (joined given value ∷ ps) qs =
 
 -- ---- what stands once stands nowhere before
 
+-- if two joined lists have at most one element and the second has one, the first is empty
 none_before : (xs ys : List (List ℕ)) → length (xs ++ ys) ≤ 1 → 1 ≤ length ys → xs ≡ []
 none_before [] ys le more = refl
 none_before (x ∷ xs) ys le more =
     let total = length-append xs ys in
     absurd (omega (arith, total))
 
+-- where there is one command word at most, none comes before a word that stands by itself
 pub no_command_before : (all ps qs : List Piece) (w : List ℕ) → all ≡ ps ++ word w ∷ qs → AreOnce all → command_words ps ≡ []
 no_command_before all ps qs w e once =
     none_before (command_words ps) (w ∷ command_words qs)
     (subst (λ (xs : List (List ℕ)). length xs ≤ 1) (ap command_words e ∙ command_words-append ps (word w ∷ qs)) once.command) (omega arith)
 
+-- a piece that gives an option a value leaves that option at least one value
 has_value : (name : OptionName) (value : List ℕ) (vs : List (List ℕ)) → 1 ≤ length (value_for name name value vs)
 has_value Turns value vs = omega arith
 has_value Seed value vs = omega arith
 has_value Goal value vs = omega arith
 has_value Workers value vs = omega arith
 
+-- where each option is given once at most, an option that is given has no value before
 pub no_value_before : (name : OptionName) (all ps qs : List Piece) (p : Piece) (value : List ℕ) → all ≡ ps ++ p ∷ qs
     → values_of name (p ∷ qs) ≡ value_for name name value (values_of name qs) → AreOnce all → values_of name ps ≡ []
 no_value_before name all ps qs p value e is once =
@@ -73,6 +80,7 @@ no_value_before name all ps qs p value e is once =
 
 -- ---- the words of plain pieces are known, and tell how often an option is given
 
+-- the words of plain pieces are all known: they have no hyphen in front or are options
 pub words_known : (ps : List Piece) → ArePlain ps → list_all is_known (words_of ps) ≡ true
 words_known [] plain = refl
 words_known (word w ∷ ps) plain = rw plain.0 (words_known ps plain.1)
@@ -104,6 +112,7 @@ flag_counts Workers Seed = refl
 flag_counts Workers Goal = refl
 flag_counts Workers Workers = refl
 
+-- a word that joins an option and a value is a word of that option, and of no other
 joined_counts : (name given : OptionName) (value : List ℕ) → is_option_word name (dashed_equals given ++ value) ≡ same_option name given
 joined_counts Turns Turns value = refl
 joined_counts Turns Seed value = refl
@@ -122,9 +131,11 @@ joined_counts Workers Seed value = refl
 joined_counts Workers Goal value = refl
 joined_counts Workers Workers value = refl
 
+-- a word of an option in front counts the option once more
 once_more : (name : OptionName) (w : List ℕ) (ws : List (List ℕ)) → is_option_word name w ≡ true → times_given name (w ∷ ws) ≡ suc (times_given name ws)
 once_more name w ws is = sum_by-cons (λ x. cond (is_option_word name x) 1 0) w ws ∙ rw is (omega arith)
 
+-- a word that is not one of an option leaves its count
 none_more : (name : OptionName) (w : List ℕ) (ws : List (List ℕ)) → is_option_word name w ≡ false → times_given name (w ∷ ws) ≡ times_given name ws
 none_more name w ws other = rw other refl
 
@@ -137,6 +148,7 @@ counted name given w value ws vs counts same = go (same_option name given) refl
     go true is = once_more name w ws (counts ∙ is) ∙ rw is (ap suc same)
     go false is = none_more name w ws (counts ∙ is) ∙ rw is same
 
+-- an option is given as often in the words of plain pieces as it has values in the pieces
 pub times_are : (name : OptionName) (ps : List Piece) → ArePlain ps → times_given name (words_of ps) ≡ length (values_of name ps)
 times_are name [] plain = refl
 times_are name (word w ∷ ps) plain = none_more name w (words_of ps) (no_option name w plain.0) ∙ times_are name ps plain.1

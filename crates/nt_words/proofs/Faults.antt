@@ -19,6 +19,7 @@ over ws = fold (walked rules []) start ws
 
 -- ---- no option has a usual value for the parser
 
+-- an argument without a default leaves the rows
 no_default : (rows : List Row) (a : Rule) → a.defaults ≡ [] → with_default rows a ≡ rows
 no_default rows a none = go (has_row a.id rows) refl
   where
@@ -26,6 +27,7 @@ no_default rows a none = go (has_row a.id rows) refl
     go true is = rw is refl
     go false is = rw (is, none) refl
 
+-- an argument without a default has no fault in its default
 no_default_fault : (rows : List Row) (a : Rule) (more : List Rule) → a.defaults ≡ [] → defaults_fault rows (a ∷ more) ≡ defaults_fault rows more
 unfolding defaults_fault
 no_default_fault rows a more none = go (has_row a.id rows) refl
@@ -39,6 +41,7 @@ abbrev HasNone : List Rule → Type 0
 HasNone [] = Unit {0}
 HasNone (a ∷ more) = (a.defaults ≡ []) × HasNone more
 
+-- arguments without defaults leave the rows and have no fault in their defaults
 no_defaults : (args : List Rule) (rows : List Row) → HasNone args → (fold with_default rows args ≡ rows) × (defaults_fault rows args ≡ [])
 unfolding defaults_fault
 no_defaults [] rows none = (refl, refl)
@@ -46,6 +49,7 @@ no_defaults (a ∷ args) rows none =
     let more = no_defaults args rows none.1 in
     (ap (λ (rs : List Row). fold with_default rs args) (no_default rows a none.0) ∙ more.0, no_default_fault rows a args none.0 ∙ more.1)
 
+-- no argument of the program has a default
 none_here : HasNone rules
 none_here = (refl, (refl, (refl, (refl, (refl, tt)))))
 

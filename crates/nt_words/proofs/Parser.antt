@@ -18,6 +18,7 @@ app = with_rule (with_rule (with_rule (with_rule (with_rule
     (on_top (λ s. record s { no_binary_name = true; disable_help_flag = true }) (new_app (codes "ntrun")))
     command_rule) (option_rule Turns)) (option_rule Seed)) (option_rule Goal)) (option_rule Workers)
 
+-- the app of ntrun has a rule for the command and for each option, and no help flag
 pub app_is : ntrun_app ≡ app
 unfolding ntrun_app
 app_is = refl
@@ -29,9 +30,11 @@ shape = (built app).top
 abbrev pub rules : List Rule
 rules = shape.rules
 
+-- the app of ntrun is simple
 pub is_walked : is_simple app ≡ true
 is_walked = refl
 
+-- the app of ntrun is simple and free
 pub is_exact : is_simple_and_free app ≡ true
 is_exact = refl
 
@@ -51,6 +54,7 @@ pub or_none : (k : Kinds) → or_else k [] ≡ k
 or_none [] = refl
 or_none (x ∷ xs) = refl
 
+-- a conjunction with a false right side is false
 and_false : (b : Bool) → (b && false) ≡ false
 and_false true = refl
 and_false false = refl
@@ -64,6 +68,7 @@ unfolding walked
 word_step rows None w h = rw (not_dashes w h, not_long w h, not_short w h) refl
 word_step rows (Some p) w h = rw (not_dashes w h, not_long w h, not_short w h, and_false (bytes_eq p.0 (codes "command"))) refl
 
+-- the first word without a hyphen has just the faults of settling the option that is pending
 pub word_fault : (rows : List Row) (pending : Option (Text × List Text)) (w : Text) → has_hyphen w ≡ false
     → turn_fault shape [] (walk_at rows pending idle 1) w ≡ settle_fault rules false (held_at rows pending)
 word_fault rows None w h = rw (not_dashes w h, not_long w h, not_short w h) refl
@@ -84,6 +89,7 @@ value_step Seed rows position w h = rw (not_dashes w h, not_long w h, not_short 
 value_step Goal rows position w h = rw (not_dashes w h, not_long w h, not_short w h) refl
 value_step Workers rows position w h = rw (not_dashes w h, not_long w h, not_short w h) refl
 
+-- a word without a hyphen that an option waits for is no fault
 pub value_fault : (name : OptionName) (rows : List Row) (position : ℕ) (w : Text) → has_hyphen w ≡ false
     → turn_fault shape [] (walk_at rows (Some (option_text name, [])) (option (option_text name)) position) w ≡ []
 value_fault Turns rows position w h = rw (not_dashes w h, not_long w h, not_short w h) refl
@@ -93,6 +99,7 @@ value_fault Workers rows position w h = rw (not_dashes w h, not_long w h, not_sh
 
 -- ---- an option
 
+-- an option by itself settles the option that is pending and waits for its value
 pub flag_step : (name : OptionName) (rows : List Row) (pending : Option (Text × List Text)) (waiting : Waiting) (position : ℕ)
     → walked rules [] (walk_at rows pending waiting position) (dashed name)
     ≡ walk_at (settled_rows rules pending rows) (Some (option_text name, [])) (option (option_text name)) position
@@ -110,6 +117,7 @@ flag_step Workers rows pending idle position = refl
 flag_step Workers rows pending (option id) position = refl
 flag_step Workers rows pending positional position = refl
 
+-- an option by itself has just the faults of settling the option that is pending
 pub flag_fault : (name : OptionName) (rows : List Row) (pending : Option (Text × List Text)) (waiting : Waiting) (position : ℕ)
     → turn_fault shape [] (walk_at rows pending waiting position) (dashed name) ≡ settle_fault rules false (held_at rows pending)
 flag_fault Turns rows pending idle position = or_none _
@@ -125,6 +133,7 @@ flag_fault Workers rows pending idle position = or_none _
 flag_fault Workers rows pending (option id) position = or_none _
 flag_fault Workers rows pending positional position = or_none _
 
+-- an option joined to its value settles the option that is pending and is used with the value at once
 pub given_step : (name : OptionName) (value : Text) (rows : List Row) (pending : Option (Text × List Text)) (waiting : Waiting) (position : ℕ)
     → walked rules [] (walk_at rows pending waiting position) (dashed_equals name ++ value)
     ≡ walk_at (used (rule_for name) (value ∷ []) (settled_rows rules pending rows)) None idle position
@@ -142,6 +151,7 @@ given_step Workers value rows pending idle position = refl
 given_step Workers value rows pending (option id) position = refl
 given_step Workers value rows pending positional position = refl
 
+-- an option joined to its value has the faults of settling the pending option, or else those of its use
 pub given_fault : (name : OptionName) (value : Text) (rows : List Row) (pending : Option (Text × List Text)) (waiting : Waiting) (position : ℕ)
     → turn_fault shape [] (walk_at rows pending waiting position) (dashed_equals name ++ value)
     ≡ or_else (settle_fault rules false (held_at rows pending)) (use_fault false (rule_for name) (value ∷ []) (settled_rows rules pending rows))

@@ -23,6 +23,7 @@ abbrev pub rows_for : List Piece → List Row
 rows_for [] = []
 rows_for (piece ∷ pieces) = row_for piece ∷ rows_for pieces
 
+-- the rows of pieces put together are the rows of the first pieces and then of the others
 pub rows-append : (ps qs : List Piece) → rows_for (ps ++ qs) ≡ rows_for ps ++ rows_for qs
 rows-append [] qs = refl
 rows-append (p ∷ ps) qs = ap (λ (rs : List Row). row_for p ∷ rs) (rows-append ps qs)
@@ -64,6 +65,7 @@ option_apart Seed = refl
 option_apart Goal = refl
 option_apart Workers = refl
 
+-- pieces with no command word have no row of the command
 pub no_command_row : (ps : List Piece) → command_words ps ≡ [] → has_row (codes "command") (rows_for ps) ≡ false
 no_command_row [] none = refl
 no_command_row (word w ∷ ps) none = cc
@@ -83,6 +85,7 @@ no_more name given value ps none more = go (bytes_eq (option_text given) (option
         cc
     go false is = rw is (more (rw is at none))
 
+-- pieces that give an option no value have no row of that option
 pub no_option_row : (name : OptionName) (ps : List Piece) → values_of name ps ≡ [] → has_row (option_text name) (rows_for ps) ≡ false
 no_option_row name [] none = refl
 no_option_row name (word w ∷ ps) none = rw (option_apart name) (no_option_row name ps none)
@@ -106,6 +109,7 @@ first_more name given value ps more = go (bytes_eq (option_text given) (option_t
     go true is = rw is refl
     go false is = rw is more
 
+-- the first value in the rows of an option is the first value that the pieces give it
 pub first_value_of : (name : OptionName) (ps : List Piece) → first_of (option_text name) (rows_for ps) ≡ slice_get (values_of name ps) 0
 first_value_of name [] = refl
 first_value_of name (word w ∷ ps) = rw (option_apart name) (first_value_of name ps)

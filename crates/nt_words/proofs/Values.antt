@@ -21,6 +21,7 @@ use Rattle.nt_words.specs.Chosen.{at_least, form_from, goal_from, no_options, no
 
 -- ---- command words
 
+-- what is found by a test passes the test
 find_passes : {X : Type 0} (p : X → Bool) (xs : List X) (x : X) → find p xs ≡ Some x → p x ≡ true
 find_passes {X = X} p [] x e = cc
 find_passes {X = X} p (y ∷ ys) x e = go (p y) refl (find_passes p ys x)
@@ -43,6 +44,7 @@ named_is w c e = go (is_built c) refl (find_passes (names_built w) COMMANDS c e)
         let bad : false ≡ true = rw is at passes in
         cc
 
+-- the word of a command that is built names that command
 pub named_again : (c : Command) → is_built c ≡ true → command_named (command_word c) ≡ Some c
 unfolding command_named
 named_again command.Run built = cc
@@ -57,6 +59,7 @@ named_again command.Audit built = cc
 
 -- ---- numbers
 
+-- a word that is read as a number in a range is the decimals of that number, which is in the range
 within_takes : (least most : ℕ) (value : List ℕ) (n : ℕ) → most < 2 ^ 64 → number_within least most value ≡ Some n
     → (value ≡ decimal n) × (least ≤ n) × (n ≤ most)
 within_takes least most value n lt e = go (number_up_to most value) refl e
@@ -77,6 +80,7 @@ within_takes least most value n lt e = go (number_up_to most value) refl e
     go None is e = cc
     go (Some m) is e = found m is (nat_le least m) refl e
 
+-- the decimals of a number in a range are read as that number
 within_again : (least most n : ℕ) → most < 2 ^ 64 → least ≤ n → n ≤ most → number_within least most (decimal n) ≡ Some n
 within_again least most n lt low high =
     let le : nat_le least n ≡ true = search (arith, low) in
@@ -84,6 +88,7 @@ within_again least most n lt low high =
 
 -- ---- options
 
+-- turns that are read from the values given at most once are the turns given
 turns_taken : (pieces : List Piece) (n : ℕ) → length (values_of Turns pieces) ≤ 1 → turns_from (slice_get (values_of Turns pieces) 0) ≡ Some n
     → HasTurns n pieces
 turns_taken pieces n once e = go (values_of Turns pieces) refl once e
@@ -97,10 +102,12 @@ turns_taken pieces n once e = go (values_of Turns pieces) refl once e
         inl (is ∙ ap (λ (x : List ℕ). x ∷ []) t.0, t.1, t.2)
     go (v ∷ w ∷ ws) is once e = absurd (omega arith)
 
+-- the turns given are read as they are
 turns_again : (pieces : List Piece) (n : ℕ) → HasTurns n pieces → turns_from (slice_get (values_of Turns pieces) 0) ≡ Some n
 turns_again pieces n (inl given) = rw given.0 (within_again 1 TURNS n (omega arith) given.1 given.2)
 turns_again pieces n (inr missing) = rw (missing.0, missing.1) refl
 
+-- a seed that is read from the values given at most once is the seed given
 seed_taken : (pieces : List Piece) (n : ℕ) → length (values_of Seed pieces) ≤ 1 → seed_from (slice_get (values_of Seed pieces) 0) ≡ Some n → HasSeed n pieces
 seed_taken pieces n once e = go (values_of Seed pieces) refl once e
   where
@@ -111,6 +118,7 @@ seed_taken pieces n once e = go (values_of Seed pieces) refl once e
         (is ∙ ap (λ (x : List ℕ). x ∷ []) t.0, t.1, t.2)
     go (v ∷ w ∷ ws) is once e = absurd (omega arith)
 
+-- the seed given is read as it is
 seed_again : (pieces : List Piece) (n : ℕ) → HasSeed n pieces → seed_from (slice_get (values_of Seed pieces) 0) ≡ Some n
 seed_again pieces n given = rw given.0 (within_again 0 GREATEST_SEED n (omega arith) given.1 given.2)
 
@@ -128,10 +136,12 @@ workers_taken pieces n once e = go (values_of Workers pieces) refl once e
         inl (is ∙ ap (λ (x : List ℕ). x ∷ []) t.0, t.1, t.2)
     go (v ∷ w ∷ ws) is once e = absurd (omega arith)
 
+-- the workers given are read as they are
 workers_again : (pieces : List Piece) (n : ℕ) → HasWorkers n pieces → workers_from (slice_get (values_of Workers pieces) 0) ≡ Some n
 workers_again pieces n (inl given) = rw given.0 (within_again 1 MOST_WORKERS n (omega arith) given.1 given.2)
 workers_again pieces n (inr missing) = rw (missing.0, missing.1) refl
 
+-- a word that is read as a name is that name
 name_taken : (v name : List ℕ) → name_of v ≡ Some name → (v ≡ name) × (is_name name ≡ true)
 name_taken v name e = go (is_name v) refl e
   where
@@ -144,6 +154,7 @@ name_taken v name e = go (is_name v) refl e
         let same : v ≡ name = cc in
         (same, subst (λ (x : List ℕ). is_name x ≡ true) same is)
 
+-- a goal that is read from the values given at most once is the goal given
 goal_taken : (pieces : List Piece) (name : List ℕ) → length (values_of Goal pieces) ≤ 1 → goal_from (slice_get (values_of Goal pieces) 0) ≡ Some name
     → HasGoal name pieces
 goal_taken pieces name once e = go (values_of Goal pieces) refl once e
@@ -155,9 +166,11 @@ goal_taken pieces name once e = go (values_of Goal pieces) refl once e
         (is ∙ ap (λ (x : List ℕ). x ∷ []) t.0, t.1)
     go (v ∷ w ∷ ws) is once e = absurd (omega arith)
 
+-- the goal given is read as it is
 goal_again : (pieces : List Piece) (name : List ℕ) → HasGoal name pieces → goal_from (slice_get (values_of Goal pieces) 0) ≡ Some name
 goal_again pieces name given = rw given.0 (rw given.1 refl)
 
+-- where no value may be given and the reading succeeds, none is given
 none_taken : (vs : List (List ℕ)) (x : Unit {0}) → none_from (slice_get vs 0) ≡ Some x → vs ≡ []
 none_taken [] x e = refl
 none_taken (v ∷ vs) x e = cc
@@ -181,6 +194,7 @@ first_given name pieces = slice_get (values_of name pieces) 0
 abbrev pub form_given : Command → List Piece → Option Form
 form_given c pieces = form_from c (first_given Turns pieces) (first_given Seed pieces) (first_given Goal pieces) (first_given Workers pieces)
 
+-- if only turns are read, the pieces give these turns and no other option
 only_taken : (pieces : List Piece) (n : ℕ) → AreFew pieces
     → only_turns (first_given Turns pieces) (first_given Seed pieces) (first_given Goal pieces) (first_given Workers pieces) ≡ Some n → HasOnlyTurns n pieces
 only_taken pieces n few e =
@@ -191,6 +205,7 @@ only_taken pieces n few e =
       workers = none_taken _ z workers;
     })))
 
+-- if no options are read, the pieces give none
 none_are_taken : (pieces : List Piece) (u : Unit {0})
     → no_options (first_given Turns pieces) (first_given Seed pieces) (first_given Goal pieces) (first_given Workers pieces) ≡ Some u → HasNoOptions pieces
 none_are_taken pieces u e =
@@ -211,6 +226,7 @@ bare_taken c pieces g f of has e =
     let same : g ≡ f = cc in
     subst (IsFormOf c pieces) same (record { command = of; options = has (none_are_taken pieces u none) }))
 
+-- a form that is made of a command and few pieces is that command's, with the options of the pieces
 pub form_taken : (c : Command) (pieces : List Piece) (f : Form) → AreFew pieces → form_given c pieces ≡ Some f → IsFormOf c pieces f
 form_taken command.Run pieces f few e =
     option_and_then_some _ _ f e (λ n only is.
@@ -260,14 +276,17 @@ form_taken command.Load pieces f few e =
           (turns_taken pieces n (few Turns) turns, seed_taken pieces s (few Seed) seed, none_taken _ x goal, none_taken _ y workers);
     })))))
 
+-- pieces that give only turns are read as these turns
 only_again : (pieces : List Piece) (n : ℕ) → HasOnlyTurns n pieces
     → only_turns (first_given Turns pieces) (first_given Seed pieces) (first_given Goal pieces) (first_given Workers pieces) ≡ Some n
 only_again pieces n has = rw (has.seed, has.goal, has.workers, turns_again pieces n has.turns) refl
 
+-- pieces that give no option are read as having none
 none_again : (pieces : List Piece) → HasNoOptions pieces
     → no_options (first_given Turns pieces) (first_given Seed pieces) (first_given Goal pieces) (first_given Workers pieces) ≡ Some tt
 none_again pieces has = rw (has.turns, has.seed, has.goal, has.workers) refl
 
+-- the command of a form and pieces with its options make that form
 pub form_again : (f : Form) (pieces : List Piece) → HasOptions f pieces → form_given (command_of f) pieces ≡ Some f
 form_again (form.Run turns) pieces has = rw (only_again pieces turns has) refl
 form_again (form.Live turns) pieces has = rw (only_again pieces turns has) refl

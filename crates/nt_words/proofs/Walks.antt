@@ -22,10 +22,12 @@ pub record Passes (w : Walk) (ws : List Text) : Type 0 where
   pub walk : walk_fault shape [] w ws ≡ []
   pub end : settle_fault rules false (fold (walked rules []) w ws).held ≡ []
 
+-- if two lists of faults have no first fault together, both are empty
 pub both_empty : (a b : Kinds) → or_else a b ≡ [] → (a ≡ []) × (b ≡ [])
 both_empty [] b e = (refl, e)
 both_empty (k ∷ ks) b e = cc
 
+-- if words pass, the first has no fault and the others pass after it
 next : (w : Walk) (x : Text) (xs : List Text) → Passes w (x ∷ xs) → (turn_fault shape [] w x ≡ []) × Passes (walked rules [] w x) xs
 unfolding walk_fault
 next w x xs p =
@@ -77,6 +79,7 @@ abbrev pub ReadsRest : List Text → Type 0
 ReadsRest ws = (wait : Option OptionName) (seen : Bool) (rows : List Row) (pending : Option (Text × List Text)) → Passes
     (state wait seen rows pending) ws → ReadsFrom wait seen ws
 
+-- case: the first word has no hyphen and is read as a word by itself
 read_word : (rows : List Row) (pending : Option (Text × List Text)) (w : Text) (ws : List Text) → has_hyphen w ≡ false
     → Passes (state None false rows pending) (w ∷ ws) → ReadsRest ws → Reads false (w ∷ ws)
 read_word rows pending w ws h p more =
@@ -85,6 +88,7 @@ read_word rows pending w ws h p more =
     let none : command_words r.pieces ≡ [] = r.once in
     record { pieces = word w ∷ r.pieces; spelled = ap (λ (xs : List Text). w ∷ xs) r.spelled; plain = (h, r.plain); once = rw none (omega arith) }
 
+-- case: the first word is an option whose value is the next word
 read_flag : (name : OptionName) (seen : Bool) (rows : List Row) (pending : Option (Text × List Text)) (ws : List Text)
     → Passes (state None seen rows pending) (dashed name ∷ ws) → ReadsRest ws → Reads seen (dashed name ∷ ws)
 read_flag name seen rows pending ws p more =
@@ -97,6 +101,7 @@ read_flag name seen rows pending ws p more =
       once = r.reads.once;
     }
 
+-- case: the first word is an option joined with its value
 read_given : (name : OptionName) (value : Text) (seen : Bool) (rows : List Row) (pending : Option (Text × List Text)) (ws : List Text)
     → Passes (state None seen rows pending) ((dashed_equals name ++ value) ∷ ws) → ReadsRest ws → Reads seen ((dashed_equals name ++ value) ∷ ws)
 read_given name value seen rows pending ws p more =
@@ -110,12 +115,14 @@ read_given name value seen rows pending ws p more =
       once = r.once;
     }
 
+-- case: the first word is the value for which an option waits
 read_value : (name : OptionName) (seen : Bool) (rows : List Row) (w : Text) (ws : List Text) → has_hyphen w ≡ false
     → Passes (state (Some name) seen rows None) (w ∷ ws) → ReadsRest ws → ReadsValue seen (w ∷ ws)
 read_value name seen rows w ws h p more =
     let after = subst (λ (x : Walk). Passes x ws) (value_step name rows (position seen) w h) (next _ w ws p).1 in
     record { value = w; rest = ws; is = refl; plain = h; reads = more None seen rows _ after }
 
+-- a known word that passes is read with the words after it, in each state of the walk
 step : (wait : Option OptionName) (seen : Bool) (rows : List Row) (pending : Option (Text × List Text)) (w : Text) (ws : List Text) → Kind w
     → Passes (state wait seen rows pending) (w ∷ ws) → ReadsRest ws → ReadsFrom wait seen (w ∷ ws)
 step None false rows pending w ws (no_flag h) p more = read_word rows pending w ws h p more
@@ -139,10 +146,12 @@ step (Some name) seen rows pending w ws (given other value e) p more =
     let bad : InvalidValue ∷ [] ≡ [] = sym (no_value name rows) ∙ none.0 in
     cc
 
+-- no words at all may be read, whether a command word was seen or not
 none_read : (seen : Bool) → MayHave seen []
 none_read false = omega arith
 none_read true = refl
 
+-- if all words are known, the first is and the others are
 known_parts : (w : Text) (ws : List Text) → list_all is_known (w ∷ ws) ≡ true → (is_known w ≡ true) × (list_all is_known ws ≡ true)
 known_parts w ws e = go (is_known w) refl
   where
@@ -174,6 +183,7 @@ pub record Ends (all : List Piece) (w : Walk) (ws : List Text) : Type 0 where
   pub rows : (settled rules (fold (walked rules []) w ws).held).rows ≡ rows_for all
   pub stopped : (fold (walked rules []) w ws).stopped ≡ None
 
+-- a word without a fault, after which the walk ends well, may stand in front
 before : (all : List Piece) (w after : Walk) (x : Text) (xs : List Text) → turn_fault shape [] w x ≡ [] → walked rules [] w x ≡ after → Ends all after xs
     → Ends all w (x ∷ xs)
 unfolding walk_fault
@@ -181,6 +191,7 @@ before all w after x xs none is ends =
     let e = subst (λ (v : Walk). Ends all v xs) (sym is) ends in
     record { passes = record { walk = rw none e.passes.walk; end = e.passes.end }; rows = e.rows; stopped = e.stopped }
 
+-- a first command word that is held stands for the pieces with that word at the end
 word_stands : (ps : List Piece) (rows : List Row) (w : Text) → rows ≡ rows_for ps → command_words ps ≡ []
     → Stands (ps ++ word w ∷ []) rows (Some (codes "command", w ∷ []))
 word_stands ps rows w e none =
@@ -190,6 +201,7 @@ word_stands ps rows w e none =
       sound = rw no_row refl;
     }
 
+-- an option that was given no value has no row yet
 fresh_row : (name : OptionName) (ps : List Piece) (rows : List Row) → rows ≡ rows_for ps → values_of name ps ≡ [] → has_row (option_text name) rows ≡ false
 fresh_row name ps rows e none = rw e (no_option_row name ps none)
 
@@ -201,6 +213,7 @@ used_new Seed ps p rows value e none is = put_new (codes "seed") value rows none
 used_new Goal ps p rows value e none is = put_new (codes "goal") value rows none ∙ (ap₂ ◌++◌ e (sym is) ∙ sym (rows-append ps (p ∷ [])))
 used_new Workers ps p rows value e none is = put_new (codes "workers") value rows none ∙ (ap₂ ◌++◌ e (sym is) ∙ sym (rows-append ps (p ∷ [])))
 
+-- using an option that has no row yet is no fault
 no_use_fault : (name : OptionName) (rows : List Row) (value : Text) → has_row (option_text name) rows ≡ false
     → use_fault false (rule_for name) (value ∷ []) rows ≡ []
 no_use_fault Turns rows value none = rw none refl
@@ -216,6 +229,7 @@ pending_rows Seed rows value = refl
 pending_rows Goal rows value = refl
 pending_rows Workers rows value = refl
 
+-- the fault of an option's pending value is the fault of its use
 pending_fault : (name : OptionName) (rows : List Row) (value : Text)
     → settle_fault rules false (held_at rows (Some (option_text name, value ∷ []))) ≡ use_fault false (rule_for name) (value ∷ []) rows
 pending_fault Turns rows value = refl
@@ -223,6 +237,7 @@ pending_fault Seed rows value = refl
 pending_fault Goal rows value = refl
 pending_fault Workers rows value = refl
 
+-- an option that waits with its first value stands for the pieces with both words at the end
 apart_stands : (name : OptionName) (ps : List Piece) (rows : List Row) (value : Text) → rows ≡ rows_for ps → values_of name ps ≡ []
     → Stands (ps ++ apart name value ∷ []) rows (Some (option_text name, value ∷ []))
 apart_stands name ps rows value e none =
@@ -232,6 +247,7 @@ apart_stands name ps rows value e none =
       sound = pending_fault name rows value ∙ no_use_fault name rows value no_row;
     }
 
+-- a first value joined with its option stands, once used, for the pieces with that word at the end
 joined_stands : (name : OptionName) (ps : List Piece) (rows : List Row) (value : Text) → rows ≡ rows_for ps → values_of name ps ≡ []
     → Stands (ps ++ joined name value ∷ []) (used (rule_for name) (value ∷ []) rows) None
 joined_stands name ps rows value e none =
@@ -249,11 +265,13 @@ seen_after ps w = sym (ap has_some (command_words-append ps (word w ∷ [])) ∙
     some_last [] x = refl
     some_last (y ∷ ys) x = refl
 
+-- a piece without a command word leaves whether a command word was seen
 seen_option : (ps : List Piece) (p : Piece) (seen : Bool) → command_words (p ∷ []) ≡ [] → seen ≡ has_some (command_words ps)
     → seen ≡ has_some (command_words (ps ++ p ∷ []))
 seen_option ps p seen none e =
     e ∙ ap has_some (sym (command_words-append ps (p ∷ []) ∙ (ap (λ (xs : List (List ℕ)). command_words ps ++ xs) none ∙ append-nil (command_words ps))))
 
+-- the walk over the rest of plain pieces, each given once at most, ends with no fault and the rows of all
 pub ends : (qs all ps : List Piece) (seen : Bool) (rows : List Row) (pending : Option (Text × List Text)) → all ≡ ps ++ qs → seen ≡ has_some (command_words ps)
     → Stands ps rows pending → ArePlain qs → AreOnce all → Ends all (walk_at rows pending idle (position seen)) (words_of qs)
 unfolding walk_fault

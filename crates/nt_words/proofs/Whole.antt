@@ -31,6 +31,7 @@ use Rattle.nt_words.proofs.Faults.{no_fault, passes, rows_are, start}
 
 -- ---- the pieces of a form are plain, and each stands once
 
+-- no command word begins with a hyphen
 command_plain : (c : Command) → has_hyphen (command_word c) ≡ false
 command_plain command.Run = refl
 command_plain command.Live = refl
@@ -47,12 +48,14 @@ abbrev AreBare : List (List ℕ) → Type 0
 AreBare [] = Unit {0}
 AreBare (w ∷ ws) = (has_hyphen w ≡ false) × AreBare ws
 
+-- of an option's values that have no hyphen, the first value and the others have none
 rest_bare : (given : OptionName) (value : List ℕ) (vs : List (List ℕ)) → AreBare (value_for given given value vs) → (has_hyphen value ≡ false) × AreBare vs
 rest_bare Turns value vs bare = bare
 rest_bare Seed value vs bare = bare
 rest_bare Goal value vs bare = bare
 rest_bare Workers value vs bare = bare
 
+-- if the values of an option have no hyphen with those of one piece more, they have none without it
 more_bare : (name given : OptionName) (value : List ℕ) (vs : List (List ℕ)) → AreBare (value_for name given value vs) → AreBare vs
 more_bare name given value vs bare = go (same_option name given) refl
   where
@@ -66,6 +69,7 @@ more_bare name given value vs bare = go (same_option name given) refl
 abbrev ValuesAreBare : List Piece → Type 0
 ValuesAreBare ps = (name : OptionName) → AreBare (values_of name ps)
 
+-- pieces whose command words and values have no hyphen are plain
 are_plain : (ps : List Piece) → AreBare (command_words ps) → ValuesAreBare ps → ArePlain ps
 are_plain [] words values = tt
 are_plain (word w ∷ ps) words values = (words.0, are_plain ps words.1 values)
@@ -79,23 +83,28 @@ record IsBareOnce (vs : List (List ℕ)) : Type 0 where
   pub bare : AreBare vs
   pub once : length vs ≤ 1
 
+-- the decimals of one 64-bit number are a value given once without a hyphen
 one_number : (vs : List (List ℕ)) (n : ℕ) → n < 2 ^ 64 → vs ≡ decimal n ∷ [] → IsBareOnce vs
 one_number vs n lt e = subst IsBareOnce (sym e) (record { bare = (decimal_first n lt, tt); once = omega arith })
 
+-- no value at all is given at most once and without a hyphen
 none_given : (vs : List (List ℕ)) → vs ≡ [] → IsBareOnce vs
 none_given vs e = subst IsBareOnce (sym e) (record { bare = tt; once = omega arith })
 
+-- turns are given at most once and without a hyphen
 turns_bare : (n : ℕ) (ps : List Piece) → HasTurns n ps → IsBareOnce (values_of Turns ps)
 turns_bare n ps (inl given) =
     let high : n ≤ TURNS = given.2 in
     one_number _ n (omega arith) given.0
 turns_bare n ps (inr missing) = none_given _ missing.0
 
+-- a seed is given at most once and without a hyphen
 seed_bare : (n : ℕ) (ps : List Piece) → HasSeed n ps → IsBareOnce (values_of Seed ps)
 seed_bare n ps given =
     let high : n ≤ GREATEST_SEED = given.2 in
     one_number _ n (omega arith) given.0
 
+-- workers are given at most once and without a hyphen
 workers_bare : (n : ℕ) (ps : List Piece) → HasWorkers n ps → IsBareOnce (values_of Workers ps)
 workers_bare n ps (inl given) =
     let high : n ≤ MOST_WORKERS = given.2 in
@@ -109,6 +118,7 @@ no_hyphen bs named =
     let all : false ≡ true = parts.1 in
     cc
 
+-- a name does not begin with a hyphen
 name_bare : (name : List ℕ) → is_name name ≡ true → has_hyphen name ≡ false
 name_bare [] e = refl
 name_bare (b ∷ bs) e = go (b == 45) refl
@@ -119,21 +129,25 @@ name_bare (b ∷ bs) e = go (b == 45) refl
         let same : b ≡ 45 = search (arith, is) in
         absurd (no_hyphen bs (subst (λ (x : ℕ). is_name (x ∷ bs) ≡ true) same e))
 
+-- a goal is given at most once and without a hyphen
 goal_bare : (name : List ℕ) (ps : List Piece) → HasGoal name ps → IsBareOnce (values_of Goal ps)
 goal_bare name ps given = subst IsBareOnce (sym given.0) (record { bare = (name_bare name given.1, tt); once = omega arith })
 
+-- pieces that give only turns give each option at most once and without a hyphen
 only_bare : (n : ℕ) (ps : List Piece) → HasOnlyTurns n ps → (name : OptionName) → IsBareOnce (values_of name ps)
 only_bare n ps has Turns = turns_bare n ps has.turns
 only_bare n ps has Seed = none_given _ has.seed
 only_bare n ps has Goal = none_given _ has.goal
 only_bare n ps has Workers = none_given _ has.workers
 
+-- pieces that give no option give each at most once and without a hyphen
 none_bare : (ps : List Piece) → HasNoOptions ps → (name : OptionName) → IsBareOnce (values_of name ps)
 none_bare ps has Turns = none_given _ has.turns
 none_bare ps has Seed = none_given _ has.seed
 none_bare ps has Goal = none_given _ has.goal
 none_bare ps has Workers = none_given _ has.workers
 
+-- the pieces of a form give each option at most once and without a hyphen
 options_bare : (f : Form) (ps : List Piece) → HasOptions f ps → (name : OptionName) → IsBareOnce (values_of name ps)
 options_bare (form.Run turns) ps has name = only_bare turns ps has name
 options_bare (form.Live turns) ps has name = only_bare turns ps has name
@@ -172,12 +186,14 @@ pub record IsTaken (words : List (List ℕ)) (f : Form) : Type 0 where
   pub fault : fault_of ntrun_app words ≡ []
   pub form : chosen (matches_of ntrun_app words) ≡ Some f
 
+-- the words of plain pieces, each given at most once, are tidy
 tidy_words : (ps : List Piece) → ArePlain ps → AreOnce ps → is_tidy (words_of ps) ≡ true
 tidy_words ps plain once = rw (words_known ps plain, one Turns, one Seed, one Goal, one Workers) refl
   where
     one : (name : OptionName) → nat_le (times_given name (words_of ps)) 1 ≡ true
     one name = rw (times_are name ps plain) (search (arith, once.option name))
 
+-- words that are a form are tidy, have no fault, and the parser chooses that form for them
 pub form_is_taken : (words : List (List ℕ)) (f : Form) → IsForm words f → IsTaken words f
 form_is_taken words f is =
     let ps = is.pieces in
@@ -202,6 +218,7 @@ record IsTidy (words : List (List ℕ)) : Type 0 where
   pub known : list_all is_known words ≡ true
   pub once : (name : OptionName) → nat_le (times_given name words) 1 ≡ true
 
+-- tidy words are known, and give each option at most once
 tidy_parts : (words : List (List ℕ)) → is_tidy words ≡ true → IsTidy words
 tidy_parts words e =
     let all = and_parts _ _ e in
@@ -217,9 +234,11 @@ tidy_parts words e =
     go turns seed goal workers Goal = goal
     go turns seed goal workers Workers = workers
 
+-- tidy words are known words
 known_of_tidy : (words : List (List ℕ)) → is_tidy words ≡ true → list_all is_known words ≡ true
 known_of_tidy words e = (tidy_parts words e).known
 
+-- tidy words give an option at most once
 times_of_tidy : (name : OptionName) (words : List (List ℕ)) → is_tidy words ≡ true → times_given name words ≤ 1
 times_of_tidy name words e =
     let le = (tidy_parts words e).once name in
@@ -252,6 +271,7 @@ named_form ps f once e = go (command_words ps) refl once.command (sym (chosen_of
     go (w ∷ []) is le e = found w is (command_named w) refl (rw is at e)
     go (w ∷ v ∷ vs) is le e = absurd (omega arith)
 
+-- tidy words without fault for which the parser chooses a form are that form
 pub taken_is_form : (words : List (List ℕ)) (f : Form) → is_tidy words ≡ true → fault_of ntrun_app words ≡ [] → chosen (matches_of ntrun_app words) ≡ Some f
     → IsForm words f
 taken_is_form words f tidy fault form =

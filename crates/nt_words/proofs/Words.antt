@@ -17,14 +17,17 @@ use Rattle.nt_words.specs.Tidy.{has_hyphen, is_known, is_option, is_option_word}
 
 -- ---- a word without a hyphen is no flag
 
+-- a word without a hyphen in front is not the two dashes
 pub not_dashes : (w : List ℕ) → has_hyphen w ≡ false → bytes_eq w (45 ∷ 45 ∷ []) ≡ false
 not_dashes [] h = refl
 not_dashes (b ∷ bs) h = rw h refl
 
+-- a word without a hyphen in front is no long option
 pub not_long : (w : List ℕ) → has_hyphen w ≡ false → long_of w ≡ None
 not_long [] h = refl
 not_long (b ∷ bs) h = rw h refl
 
+-- a word without a hyphen in front is no short option
 pub not_short : (w : List ℕ) → has_hyphen w ≡ false → short_of w ≡ None
 not_short [] h = refl
 not_short (b ∷ bs) h = rw h refl
@@ -33,6 +36,7 @@ not_short (b ∷ bs) h = rw h refl
 flip : (b : ℕ) → (b == 45) ≡ false → (45 == b) ≡ false
 flip b h = ne_eqb 45 b (λ e. let bad : (45 == 45) ≡ false = subst (λ (x : ℕ). (x == 45) ≡ false) (sym e) h in cc)
 
+-- a word without a hyphen in front is none of the options in either spelling
 pub no_option : (name : OptionName) (w : List ℕ) → has_hyphen w ≡ false → is_option_word name w ≡ false
 no_option Turns [] h = refl
 no_option Seed [] h = refl
@@ -55,6 +59,7 @@ number_first (c ∷ cs) n e = go (c == 45) refl
         let bad : None ≡ Some n = subst (λ (d : ℕ). number_of (d ∷ cs) ≡ Some n) at e in
         cc
 
+-- the decimal of a 64 bit number has no hyphen in front
 pub decimal_first : (n : ℕ) → n < 2 ^ 64 → has_hyphen (decimal n) ≡ false
 decimal_first n lt = number_first (decimal n) n (number_again n lt)
 
@@ -65,6 +70,7 @@ pub data Kind (w : List ℕ) : Type 0 where
   flag : (name : OptionName) → w ≡ dashed name → Kind w
   given : (name : OptionName) (value : List ℕ) → w ≡ dashed_equals name ++ value → Kind w
 
+-- a word of an option is the option by itself or the option joined with a value
 option_kind : (name : OptionName) (w : List ℕ) → is_option_word name w ≡ true → Kind w
 option_kind name w e = go (bytes_eq w (dashed name)) refl
   where
@@ -74,6 +80,7 @@ option_kind name w e = go (bytes_eq w (dashed name)) refl
         let starts : starts_with eqb w (dashed_equals name) ≡ true = rw is at e in
         given name (drop (length (dashed_equals name)) w) ((starts_is Decides-eqb w (dashed_equals name) _ refl).0 starts)
 
+-- a word that is one of the options has a known kind
 one_of_options : (w : List ℕ) → is_option w ≡ true → Kind w
 one_of_options w e = turns (or_cases _ _ e)
   where
@@ -89,6 +96,7 @@ one_of_options w e = turns (or_cases _ _ e)
     turns (inl is) = option_kind Turns w is
     turns (inr more) = seed (or_cases _ _ more)
 
+-- a known word has no hyphen in front, or is an option by itself or joined to its value
 pub kind_of_word : (w : List ℕ) → is_known w ≡ true → Kind w
 kind_of_word w e = go (has_hyphen w) refl
   where

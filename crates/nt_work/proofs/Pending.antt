@@ -24,6 +24,7 @@ use Rattle.nt_work.specs.Changes.{added_by, after_change, call_change, change_in
 
 -- ---- the change of an event says what it uses up and inserts
 
+-- a call removes a DPC if and only if its change uses up each insert of that DPC
 uses_dpc : (k : Family) (y : Reply) (d : DpcNo) (n : ℕ) → is_dpc (by_dpc_family (λ c. dpc_removed c y) None k) d ≡ uses (call_change k y) (DpcThing d) n
 uses_dpc (ForDpc (InsertDpc x)) Yes d n = refl
 uses_dpc (ForDpc (InsertDpc x)) y d n = refl
@@ -35,6 +36,7 @@ uses_dpc (ForApc (TakeApc x)) Yes d n = refl
 uses_dpc (ForApc (TakeApc x)) y d n = refl
 uses_dpc k y d n = refl
 
+-- a call removes an APC if and only if its change uses up each insert of that APC
 uses_apc : (k : Family) (y : Reply) (a : ApcNo) (n : ℕ) → is_apc (by_apc_family (λ c. apc_removed c y) None k) a ≡ uses (call_change k y) (ApcThing a) n
 uses_apc (ForDpc (InsertDpc x)) Yes a n = refl
 uses_apc (ForDpc (InsertDpc x)) y a n = refl
@@ -46,6 +48,7 @@ uses_apc (ForApc (TakeApc x)) Yes a n = refl
 uses_apc (ForApc (TakeApc x)) y a n = refl
 uses_apc k y a n = refl
 
+-- an event uses up an insert if and only if its change does
 uses_are : (w : What) (thing : Thing) (n : ℕ) → uses_up thing n w ≡ uses (change_in w) thing n
 uses_are (Call f c y) (DpcThing d) n = uses_dpc (family c) y d n
 uses_are (Call f c y) (ApcThing a) n = uses_apc (family c) y a n
@@ -66,6 +69,7 @@ uses_are (Flush x m) (ApcThing a) n = refl
 uses_are w (DpcThing d) n = refl
 uses_are w (ApcThing a) n = refl
 
+-- what a call inserts, a DPC or an APC, is what its change inserts
 inserts_call : (k : Family) (y : Reply) →
     by_dpc_family (λ c. option_map DpcThing (dpc_inserted c y)) (by_apc_family (λ c. option_map ApcThing (apc_inserted c y)) None k) k
     ≡ inserted_in (call_change k y)
@@ -79,6 +83,7 @@ inserts_call (ForApc (TakeApc x)) Yes = refl
 inserts_call (ForApc (TakeApc x)) y = refl
 inserts_call k y = refl
 
+-- the thing that an event inserts is that which its change inserts
 pub inserts_are : (w : What) → inserted_thing w ≡ inserted_in (change_in w)
 inserts_are (Call f c y) = inserts_call (family c) y
 inserts_are (Fire x Yes) = refl
@@ -91,6 +96,7 @@ inserts_are w = refl
 
 -- ---- replies other than yes
 
+-- a call whose reply is not yes changes nothing of the inserts
 pub quiet_family : (k : Family) (y : Reply) → is_yes y ≡ false → call_change k y ≡ Nothing
 quiet_family (ForDpc (InsertDpc x)) Yes h = absurd cc
 quiet_family (ForDpc (InsertDpc x)) y h = refl
@@ -104,11 +110,13 @@ quiet_family k y h = refl
 
 -- ---- the fate of an insert behind one event more
 
+-- the fate that an event gives to an insert is never to be waiting still
 comes : (w : What) (m : ℕ) → still_waits (fate_by w m) ≡ false
 comes (Begin b from) m = refl
 comes (Flush a from) m = refl
 comes w m = refl
 
+-- an insert waits after an event if it waited before and the event does not use it up, else not
 both_wait : (f : Fate) (used : Bool) (w : What) (m : ℕ) → still_waits (first_fate f (if used then fate_by w m else StillWaits)) ≡ (still_waits f && not used)
 both_wait StillWaits true w m = comes w m
 both_wait StillWaits false w m = refl
@@ -144,26 +152,31 @@ abbrev AllBelow : ℕ → List Inserted → Type 0
 AllBelow n [] = Unit {0}
 AllBelow n (x ∷ xs) = (x.number < n) × AllBelow n xs
 
+-- lists of inserts with numbers below a bound, appended, are below each bound at least as great
 below_more : (n m : ℕ) (xs ys : List Inserted) → n ≤ m → AllBelow n xs → AllBelow m ys → AllBelow m (xs ++ ys)
 below_more n m [] ys le h g = g
 below_more n m (x ∷ xs) ys le h g = (omega (arith, h.0, le), below_more n m xs ys le h.1 g)
 
+-- what the event of a number inserts has a number below the next one
 below_one : (n : ℕ) (o : Option Thing) → AllBelow (suc n) (inserted_by n o)
 below_one n None = tt
 below_one n (Some thing) = (omega arith, tt)
 
+-- each insert of a history has a number below the number of its events
 inserts_below : (past : List Event) → AllBelow (length past) (inserts past)
 inserts_below [] = tt
 inserts_below (e ∷ past) =
     below_more (length past) (suc (length past)) (inserts past) (inserted_by (length past) (inserted_thing e.what)) (omega arith) (inserts_below past)
     (below_one (length past) (inserted_thing e.what))
 
+-- a test that joins two tests keeps an element in a list if both tests do
 keep_one : (a b c : Bool) (x : Inserted) (xs ys zs : List Inserted) → c ≡ (a && b) → zs ≡ ys →
     (if c then x ∷ zs else zs) ≡ (if a then (if b then x ∷ ys else ys) else ys)
 keep_one true true c x xs ys zs e h = rw (e, h) refl
 keep_one true false c x xs ys zs e h = rw (e, h) refl
 keep_one false b c x xs ys zs e h = rw (e, h) refl
 
+-- filtering a list whose first element is optional filters the rest and asks the test of that element
 filtered : (b : Bool) (p : Inserted → Bool) (x : Inserted) (xs : List Inserted) →
     filter p (if b then x ∷ xs else xs) ≡ (if b then (if p x then x ∷ filter p xs else filter p xs) else filter p xs)
 filtered true p x xs = refl
@@ -179,18 +192,21 @@ kept_on e past (x ∷ xs) h =
     (one_later x.thing x.number e past h.0) (kept_on e past xs h.1)
     ∙ sym (filtered (waits_in past x) (kept_by (change_in e.what)) x (filter (waits_in past) xs))
 
+-- an insert by the newest event is waiting after it
 new_waits : (e : Event) (past : List Event) (o : Option Thing) → filter (waits_in (e ∷ past)) (inserted_by (length past) o) ≡ inserted_by (length past) o
 new_waits e past None = refl
 new_waits e past (Some thing) =
     let h : still_waits (fate_of thing (length past) (e ∷ past)) ≡ true = waits_at_first thing (length past) (e ∷ past) (omega arith) in
     ap (λ (b : Bool). if b then record { number = length past; thing = thing } ∷ [] else []) h
 
+-- the pending insert that a change adds is the insert of the thing that it inserts
 pub added : (c : Change) (n : ℕ) → inserted_by n (inserted_in c) ≡ added_by c n
 added (Inserts o) n = refl
 added (Removes o) n = refl
 added (Takes x) n = refl
 added Nothing n = refl
 
+-- the inserts pending after one event more are those that its change leaves of the ones before
 pub pending_more : (e : Event) (past : List Event) → waiting_inserts (e ∷ past) ≡ after_change (change_in e.what) (length past) (waiting_inserts past)
 pending_more e past =
     filter-append (waits_in (e ∷ past)) (inserts past) (inserted_by (length past) (inserted_thing e.what))

@@ -22,20 +22,24 @@ use Rattle.nt_work.specs.Rule.{nobody, of, whole, with_put, with_taken}
 
 -- ---- lists
 
+-- a place at which a list has an element is below its length
 at_below : {A : Type 0} (l : List A) (i : ℕ) (a : A) → get_elem? l i ≡ some a → i < length l
 at_below [] i a e = absurd (some-ne-none a (sym e))
 at_below (x ∷ xs) zero a e = omega arith
 at_below (x ∷ xs) (suc i) a e = let h = at_below xs i a e in omega (arith, h)
 
+-- a list has at most one element at a place
 at_one : {A : Type 0} (l : List A) (i : ℕ) (a b : A) → get_elem? l i ≡ some a → get_elem? l i ≡ some b → a ≡ b
 at_one l i a b e f = some-injective a b (sym e ∙ f)
 
+-- an element of a list with one more at the end is an old one at its place or the new one at the end
 at_end : {A : Type 0} (l : List A) (a b : A) (j : ℕ) → get_elem? (l ++ a ∷ []) j ≡ some b → (get_elem? l j ≡ some b) ⊎ ((j ≡ length l) × (a ≡ b))
 at_end [] a b zero e = inr (refl, some-injective a b e)
 at_end [] a b (suc j) e = absurd (some-ne-none b (sym e))
 at_end (x ∷ xs) a b zero e = inl e
 at_end (x ∷ xs) a b (suc j) e = ⊎_elim (λ h. inl h) (λ h. inr (ap suc h.0, h.1)) (at_end xs a b j e)
 
+-- a sum over a list with one element replaced differs by that element's old and new value
 sum_changed : {A : Type 0} (f : A → ℕ) (xs : List A) (i : ℕ) (v w : A) → get_elem? xs i ≡ some v → sum_by f (set xs i w) + f v ≡ sum_by f xs + f w
 sum_changed f [] i v w e = absurd (some-ne-none v (sym e))
 sum_changed f (x ∷ xs) zero v w e =
@@ -43,11 +47,13 @@ sum_changed f (x ∷ xs) zero v w e =
 sum_changed f (x ∷ xs) (suc i) v w e =
     let h = sum_changed f xs i v w e in let a = sum_by-cons f x (set xs i w) in let b = sum_by-cons f x xs in omega (arith, h, a, b)
 
+-- the value of one element is at most the sum over the list
 sum_one : {A : Type 0} (f : A → ℕ) (xs : List A) (i : ℕ) (v : A) → get_elem? xs i ≡ some v → f v ≤ sum_by f xs
 sum_one f [] i v e = absurd (some-ne-none v (sym e))
 sum_one f (x ∷ xs) zero v e = let a : f x ≡ f v = ap f (some-injective x v e) in let c = sum_by-cons f x xs in omega (arith, a, c)
 sum_one f (x ∷ xs) (suc i) v e = let a = sum_one f xs i v e in let c = sum_by-cons f x xs in omega (arith, a, c)
 
+-- the values of two elements at different places together are at most the sum over the list
 sum_two : {A : Type 0} (f : A → ℕ) (xs : List A) (i j : ℕ) (v w : A) → get_elem? xs i ≡ some v → get_elem? xs j ≡ some w → i ≢ j → f v + f w ≤ sum_by f xs
 sum_two f [] i j v w e g ne = absurd (some-ne-none v (sym e))
 sum_two f (x ∷ xs) zero zero v w e g ne = absurd (ne refl)
@@ -60,30 +66,37 @@ sum_two f (x ∷ xs) (suc i) (suc j) v w e g ne =
 
 -- ---- hands and moves
 
+-- if one property gives another, a list of hands that all have the first all have the second
 pub each_hand : {P Q : Hand → Type 0} → ((h : Hand) → P h → Q h) → (hs : List Hand) → EachHand P hs → EachHand Q hs
 each_hand f [] x = tt
 each_hand f (h ∷ hs) x = (f h x.0, each_hand f hs x.1)
 
+-- if two properties give a third, hands that all have the first two all have the third
 pub both_hands : {P Q R : Hand → Type 0} → ((h : Hand) → P h → Q h → R h) → (hs : List Hand) → EachHand P hs → EachHand Q hs → EachHand R hs
 both_hands f [] x y = tt
 both_hands f (h ∷ hs) x y = (f h x.0 y.0, both_hands f hs x.1 y.1)
 
+-- if all hands of two lists have a property, all hands of the joined list have it
 pub hands_joined : (P : Hand → Type 0) (xs ys : List Hand) → EachHand P xs → EachHand P ys → EachHand P (xs ++ ys)
 hands_joined P [] ys a b = b
 hands_joined P (h ∷ xs) ys a b = (a.0, hands_joined P xs ys a.1 b)
 
+-- if one property gives another, moves that all have the first all have the second
 pub each_move : {P Q : Move → Type 0} → ((m : Move) → P m → Q m) → (ms : List Move) → EachMove P ms → EachMove Q ms
 each_move f [] x = tt
 each_move f (m ∷ ms) x = (f m x.0, each_move f ms x.1)
 
+-- what holds of each of some moves and of one more holds of each with it at the end
 moves_end : (P : Move → Type 0) (ms : List Move) (m : Move) → EachMove P ms → P m → EachMove P (ms ++ m ∷ [])
 moves_end P [] m x p = (p, tt)
 moves_end P (y ∷ ms) m x p = (x.0, moves_end P ms m x.1 p)
 
+-- a number that a pass of one list has is had in the list with others appended
 has_left : (n : ℕ) (xs ys : List Hand) → HasNumber n xs → HasNumber n (xs ++ ys)
 has_left n [] ys h = absurd h
 has_left n (x ∷ xs) ys h = ⊎_elim (λ e. inl e) (λ r. inr (has_left n xs ys r)) h
 
+-- a number that a pass of one list has is had in the list with others put in front
 has_right : (n : ℕ) (xs ys : List Hand) → HasNumber n ys → HasNumber n (xs ++ ys)
 has_right n [] ys h = h
 has_right n (x ∷ xs) ys h = inr (has_right n xs ys h)
@@ -93,26 +106,32 @@ not_there : (n : ℕ) (xs : List Hand) → EachHand (λ h. h.number ≢ n) xs �
 not_there n [] a h = h
 not_there n (x ∷ xs) a h = ⊎_elim (λ e. a.0 e) (λ r. not_there n xs a.1 r) h
 
+-- two lists of passes with no number twice have none twice together, if no number is in both
 apart_joined : (xs ys : List Hand) → AreApart xs → AreApart ys → EachHand (λ x. EachHand (λ y. y.number ≢ x.number) ys) xs → AreApart (xs ++ ys)
 apart_joined [] ys a b c = b
 apart_joined (x ∷ xs) ys a b c = (hands_joined _ xs ys a.0 c.0, apart_joined xs ys a.1 b c.1)
 
 -- ---- what one pass put or took, behind one move more
 
+-- the items of moves with one move more are the items before and the item of that move
 pub items_end : (ms : List Move) (m : Move) → map item_in (ms ++ m ∷ []) ≡ map item_in ms ++ m.item ∷ []
 items_end ms m = map-append item_in ms (m ∷ [])
 
+-- what a pass did, with one move more, is what it did before and the move's item if the move is its own
 of_end : (n : ℕ) (ms : List Move) (m : Move) (b : Bool) → (m.by == n) ≡ b → of n (ms ++ m ∷ []) ≡ of n ms ++ map item_in (if b then m ∷ [] else [])
 of_end n ms m b e =
     ap (map item_in) (filter-append (is_by n) ms (m ∷ [])) ∙ map-append item_in (filter (is_by n) ms) (filter (is_by n) (m ∷ []))
     ∙ ap (λ (c : Bool). of n ms ++ map item_in (if c then m ∷ [] else [])) e
 
+-- a pass's own move adds its item at the end of what that pass did
 pub of_own : (n : ℕ) (ms : List Move) (m : Move) → m.by ≡ n → of n (ms ++ m ∷ []) ≡ of n ms ++ m.item ∷ []
 of_own n ms m e = of_end n ms m true (eq-eqb m.by n e)
 
+-- a move by another pass adds nothing to what this pass did
 pub of_other : (n : ℕ) (ms : List Move) (m : Move) → m.by ≢ n → of n (ms ++ m ∷ []) ≡ of n ms
 of_other n ms m e = of_end n ms m false (ne_eqb m.by n e) ∙ append-nil (of n ms)
 
+-- a pass that made none of the moves has no items of them
 of_none : (n : ℕ) (ms : List Move) → EachMove (λ m. m.by ≢ n) ms → of n ms ≡ []
 of_none n [] h = refl
 of_none n (m ∷ ms) h = ap (λ (b : Bool). map item_in (if b then m ∷ filter (is_by n) ms else filter (is_by n) ms)) (ne_eqb m.by n h.0) ∙ of_none n ms h.1
@@ -122,6 +141,7 @@ puts_on : (puts takes : List Move) (m : Move) (hs : List Hand) → EachHand (λ 
     EachHand (IsHand (puts ++ m ∷ []) takes) hs
 puts_on puts takes m hs = both_hands (λ h n d. (of_other h.number puts m (λ e. n (sym e)) ∙ d.0, d.1)) hs
 
+-- a take by none of some passes leaves what each of these did as it is in the lists
 takes_on : (puts takes : List Move) (m : Move) (hs : List Hand) → EachHand (λ h. h.number ≢ m.by) hs → EachHand (IsHand puts takes) hs →
     EachHand (IsHand puts (takes ++ m ∷ [])) hs
 takes_on puts takes m hs = both_hands (λ h n d. (d.0, of_other h.number takes m (λ e. n (sym e)) ∙ d.1)) hs
@@ -150,6 +170,7 @@ owned_on seat views k v w at live same m o =
 
 -- ---- the steps
 
+-- the rule holds of an empty queue and the first pass, which has every part
 pub begins : IsKept [] (whole ∷ [])
 begins = record {
   puts = [];
@@ -168,6 +189,7 @@ begins = record {
         (record { seats = (refl, tt); spares = λ n a b. refl; did = ((refl, refl), tt); apart = (tt, tt) })
     first (suc k) v e live = absurd (some-ne-none v (sym e))
 
+-- a put by a pass that has a part keeps the rule, and the item is added to what that pass put
 pub puts_kept : (n k : ℕ) (v : View) (x : Item) → 0 < v.parts → Pushes IsKept n k v x (λ w. w ≡ with_put v x)
 puts_kept n k v x some_part items views room h at =
     let w : View = with_put v x in
@@ -215,6 +237,7 @@ puts_kept n k v x some_part items views room h at =
       refl,
     )
 
+-- a take by a pass that has a part keeps the rule, and the item is added to what that pass took
 pub takes_kept : (k : ℕ) (v : View) → 0 < v.parts → Pops IsKept k v (λ x w. w ≡ with_taken v x)
 takes_kept k v some_part x items views h at =
     let w : View = with_taken v x in
@@ -262,6 +285,7 @@ takes_kept k v some_part x items views h at =
       refl,
     )
 
+-- at a moment of the queue a pass that has a part knows the order of all puts and takes and its own among them
 pub tells : (k : ℕ) (v : View) → 0 < v.parts → Learns IsKept k v (λ items. Told v items)
 tells k v some_part items views h at =
     let mine = h.each k v at some_part in
@@ -287,12 +311,15 @@ tells k v some_part items views h at =
 abbrev moved : (ℕ → ℕ) → ℕ → ℕ → ℕ → ℕ
 moved seat f place n = if n == f then place else seat n
 
+-- a pass that moved is at its new seat
 moved_here : (seat : ℕ → ℕ) (f place : ℕ) → moved seat f place f ≡ place
 moved_here seat f place = ap (λ (b : Bool). if b then place else seat f) (eq-eqb f f refl)
 
+-- a pass that didn't move stays at its seat
 moved_else : (seat : ℕ → ℕ) (f place n : ℕ) → n ≢ f → moved seat f place n ≡ seat n
 moved_else seat f place n e = ap (λ (b : Bool). if b then place else seat n) (ne_eqb n f e)
 
+-- a pass that met nobody and has parts to spare may give one to a fresh pass, and the rule stays
 pub forks_kept : (k : ℕ) (v : View) → v.met ≡ [] → 0 < v.spare → v.parts ≡ v.spare + 1 → Forks IsKept k v (fewer v) (fresh v)
 forks_kept k v none some_spare parts items views h at =
     let some_part : 0 < v.parts = omega (arith, parts) in
@@ -363,12 +390,15 @@ forks_kept k v none some_spare parts items views h at =
 abbrev joined : (ℕ → ℕ) → ℕ → ℕ → ℕ → ℕ
 joined seat from to n = if seat n == from then to else seat n
 
+-- a pass of a seat that is joined to another is at that other seat
 joined_from : (seat : ℕ → ℕ) (from to n : ℕ) → seat n ≡ from → joined seat from to n ≡ to
 joined_from seat from to n e = ap (λ (b : Bool). if b then to else seat n) (eq-eqb (seat n) from e)
 
+-- a pass of any other seat than the one that is joined to another stays at its own
 joined_else : (seat : ℕ → ℕ) (from to n : ℕ) → seat n ≢ from → joined seat from to n ≡ seat n
 joined_else seat from to n e = ap (λ (b : Bool). if b then to else seat n) (ne_eqb (seat n) from e)
 
+-- a pass may meet another, both with parts, and gets its parts and what it did, and the rule stays
 pub meets_kept : (k : ℕ) (v : View) (from : ℕ) (w : View) → 0 < v.parts → 0 < w.parts → Merges IsKept k v from w (met_by v w) nobody
 meets_kept k v from w some_part its_part items views h at two at' =
     let both : View = met_by v w in

@@ -29,9 +29,11 @@ use Rattle.nt_work.proofs.Ruled.{each_hand, hands_joined}
 
 -- ---- one worker
 
+-- a worker of a queue that does nothing has worked and put nothing more
 pub works_not : (q : WorkQueue) (c : List ℕ) (x : Worker) → IsWorkerOf q c x → Works q c [] x x
 works_not q c x h = record { worker = h; put = sym (append-nil (pass_view x.pass).hand.put); met = refl; parts = refl }
 
+-- a worker that put one list of items and then another has put both, one behind the other
 pub works_through : (q : WorkQueue) (c : List ℕ) (a b : List Item) (x y z : Worker) → Works q c a x y → Works q c b y z → Works q c (a ++ b) x z
 works_through q c a b x y z f g = record {
   worker = g.worker;
@@ -79,6 +81,7 @@ put_one_more q c x y item h of' more done = record {
   parts = ap (λ (v : View). v.parts) more;
 }
 
+-- a worker that had put nothing has put just the items that its work put
 pub has_worked : (q : WorkQueue) (c : List ℕ) (puts : List Item) (x y : Worker) → HasPut q c [] x → Works q c puts x y → HasPut q c puts y
 has_worked q c puts x y h w = record {
   worker = w.worker;
@@ -87,6 +90,7 @@ has_worked q c puts x y h w = record {
   one = w.parts ∙ h.one;
 }
 
+-- the own items up to one item more are those so far, and that item if it is the worker's own
 pub own_more : (workers k : ℕ) (xs : List Item) (i : ℕ) (d : Item) → i < length xs →
     own_items workers k (take (i + 1) xs)
     ≡ own_items workers k (take i xs) ++ (if ((get_or xs i d).cpu.0 % workers) == k then get_or xs i d ∷ [] else [])
@@ -96,6 +100,7 @@ own_more workers k xs i d lt =
 
 -- ---- what is told
 
+-- telling at a place the count of that place leaves it told there
 told_here : (c told : List ℕ) (e w : ℕ) → length told ≡ length c → w ≡ get_or c e 0 → get_or (set told e w) e 0 ≡ get_or c e 0
 told_here c told e w many is =
     ⊎_elim (λ lt. get_or-set_same told e w 0 lt ∙ is)
@@ -103,16 +108,19 @@ told_here c told e w many is =
     let long = length-set told e w in get_or_past (set told e w) e 0 (omega (arith, long, no)) ∙ sym (get_or_past c e 0 (omega (arith, many, no))))
     (cases_lt e (length told))
 
+-- telling a count at any place leaves it told at each place where it was told already
 told_still : (c told : List ℕ) (e w j : ℕ) → length told ≡ length c → w ≡ get_or c e 0 → get_or told j 0 ≡ get_or c j 0 →
     get_or (set told e w) j 0 ≡ get_or c j 0
 told_still c told e w j many is h =
     dite (ℕ_discrete j e) (λ same. subst (λ (n : ℕ). get_or (set told e w) n 0 ≡ get_or c n 0) (sym same) (told_here c told e w many is))
     (λ other. get_or-set_other told e j w 0 other ∙ h)
 
+-- telling the counts of audited items leaves the list as long as it was
 pub told_length : (told : List ℕ) (xs : List Audited) → length (told_by told xs) ≡ length told
 told_length told [] = refl
 told_length told (x ∷ xs) = told_length (set told x.item.event x.waiting) xs ∙ length-set told x.item.event x.waiting
 
+-- telling at a place beyond the end of the list leaves the list as it was
 told_beyond : (told : List ℕ) (e w : ℕ) → length told ≤ e → set told e w ≡ told
 told_beyond [] e w le = refl
 told_beyond (x ∷ told) zero w le = absurd (omega (arith, le))
@@ -124,10 +132,12 @@ written_back {A} n new old same long =
     ap (λ (xs : List A). take n (new ++ xs)) (drop_all (length new) old (omega (arith, same)))
     ∙ (ap (λ (xs : List A). take n xs) (append-nil new) ∙ take_all n new (omega (arith, same, long)))
 
+-- telling of audited items and one more is telling of the items and then setting the count of the last
 pub told_more : (told : List ℕ) (xs : List Audited) (x : Audited) → told_by told (xs ++ x ∷ []) ≡ set (told_by told xs) x.item.event x.waiting
 told_more told [] x = refl
 told_more told (y ∷ xs) x = told_more (set told y.item.event y.waiting) xs x
 
+-- telling a list of items leaves a count told that was told already
 told_stays : (c told : List ℕ) (xs : List Item) (j : ℕ) → length told ≡ length c → get_or told j 0 ≡ get_or c j 0 →
     get_or (told_by told (map (reported c) xs)) j 0 ≡ get_or c j 0
 told_stays c told [] j many h = h
@@ -135,6 +145,7 @@ told_stays c told (x ∷ xs) j many h =
     told_stays c (set told x.event (get_or c x.event 0)) xs j (length-set told x.event (get_or c x.event 0) ∙ many)
     (told_still c told x.event (get_or c x.event 0) j many refl h)
 
+-- after a list of items is told, the counts of all of them are told
 told_each : (c told : List ℕ) (xs : List Item) → length told ≡ length c → AreTold c (told_by told (map (reported c) xs)) xs
 told_each c told [] many x h = absurd h
 told_each c told (y ∷ xs) many x h =
@@ -147,10 +158,12 @@ told_each c told (y ∷ xs) many x h =
 
 -- ---- all workers
 
+-- items put by one of some passes are put by one of these with others appended
 some_left : (puts : List Item) (xs ys : List Hand) → SomePut puts xs → SomePut puts (xs ++ ys)
 some_left puts [] ys h = absurd h
 some_left puts (x ∷ xs) ys h = ⊎_elim (λ e. inl e) (λ r. inr (some_left puts xs ys r)) h
 
+-- items put by one of some passes are put by one of these with others in front
 some_right : (puts : List Item) (xs ys : List Hand) → SomePut puts ys → SomePut puts (xs ++ ys)
 some_right puts [] ys h = h
 some_right puts (x ∷ xs) ys h = inr (some_right puts xs ys h)
@@ -187,6 +200,7 @@ met_more q c items workers n told told' p p' w h has is of' met =
       many = ap (λ (t : List ℕ). length t) is ∙ told_length told w.done.items ∙ h.many;
     }
 
+-- an item of a list that passes a test is in the filtered list
 has_own : (p : Item → Bool) (x : Item) (xs : List Item) → p x ≡ true → Has x xs → Has x (filter p xs)
 has_own p x [] t h = absurd h
 has_own p x (y ∷ xs) t h =
@@ -198,6 +212,7 @@ has_own p x (y ∷ xs) t h =
     kept true r = inr r
     kept false r = r
 
+-- an item of some moves, perhaps with one more, is of all moves with that one, if those of some are of all
 among_more : (m : Move) (some all : List Move) (x : Item) → (Has x (map item_in some) → Has x (map item_in all)) → (b : Bool) →
     Has x (map item_in (if b then m ∷ some else some)) → Has x (map item_in (m ∷ all))
 among_more m some all x f true r = ⊎_elim (λ (e : m.item ≡ x). inl e) (λ (s : Has x (map item_in some)). inr (f s)) r
@@ -208,6 +223,7 @@ among_all : (n : ℕ) (ms : List Move) (x : Item) → Has x (of n ms) → Has x 
 among_all n [] x h = absurd h
 among_all n (m ∷ ms) x h = among_more m (filter (is_by n) ms) ms x (among_all n ms x) (is_by n m) h
 
+-- an item that some pass put is among all items put
 has_put : (puts takes : List Move) (own : List Item) (hs : List Hand) (x : Item) → EachHand (IsHand puts takes) hs → SomePut own hs → Has x own →
     Has x (map item_in puts)
 has_put puts takes own [] x d s h = absurd s
@@ -219,6 +235,7 @@ has_put puts takes own (g ∷ hs) x d s h =
 abbrev TakenBy : List Move → List Hand → Item → Type 0
 TakenBy takes hs x = (n : ℕ) × HasNumber n hs × Has x (of n takes)
 
+-- an item that was taken was taken by one of the passes, if each take was by one of them
 taken_by_one : (takes : List Move) (hs : List Hand) (x : Item) → EachMove (λ m. HasNumber m.by hs) takes → Has x (map item_in takes) → TakenBy takes hs x
 taken_by_one [] hs x by h = absurd h
 taken_by_one (m ∷ ms) hs x by h =
@@ -232,6 +249,7 @@ taken_by_one (m ∷ ms) hs x by h =
     more n true r = inr r
     more n false r = r
 
+-- an item that one of the passes took has its count told, if all that each pass took is told
 told_by_some : (puts takes : List Move) (c told : List ℕ) (hs : List Hand) (n : ℕ) (x : Item) → EachHand (IsHand puts takes) hs →
     EachHand (λ g. AreTold c told g.taken) hs → HasNumber n hs → Has x (of n takes) → get_or told x.event 0 ≡ get_or c x.event 0
 told_by_some puts takes c told [] n x d t by h = absurd by
@@ -239,6 +257,7 @@ told_by_some puts takes c told (g ∷ hs) n x d t by h =
     ⊎_elim (λ (e : g.number ≡ n). t.0 x (subst (λ (xs : List Item). Has x xs) (d.0.1) (subst (λ (m : ℕ). Has x (of m takes)) (sym e) h)))
     (λ (r : HasNumber n hs). told_by_some puts takes c told hs n x d.1 t.1 r h) by
 
+-- items whose counts were told are reported by what was told as by the counts
 same_reports : (c told : List ℕ) (xs : List Item) → AreTold c told xs → map (reported told) xs ≡ map (reported c) xs
 same_reports c told [] h = refl
 same_reports c told (x ∷ xs) h =
@@ -284,12 +303,14 @@ all_found q c items workers told told' p x y some h is w was now' =
 
 -- ---- steps of loops
 
+-- setting the count of the next audited item tells of the items up to it and that one
 pub told_step : (first told told' : List ℕ) (done : List Audited) (k : ℕ) (d : Audited) → k < length done → told ≡ told_by first (take k done) →
     told' ≡ set told (get_or done k d).item.event (get_or done k d).waiting → told' ≡ told_by first (take (k + 1) done)
 told_step first told told' done k d lt before is =
     is ∙ ap (λ (t : List ℕ). set t (get_or done k d).item.event (get_or done k d).waiting) before ∙ sym (told_more first (take k done) (get_or done k d))
     ∙ ap (told_by first) (sym (take_more done k d lt))
 
+-- an audited item whose event lies behind the end of the counts changes nothing of what is told
 pub told_not : (first told told' : List ℕ) (done : List Audited) (k : ℕ) (d : Audited) → k < length done → told ≡ told_by first (take k done) →
     length told ≤ (get_or done k d).item.event → told' ≡ told → told' ≡ told_by first (take (k + 1) done)
 told_not first told told' done k d lt before far is =
@@ -314,6 +335,7 @@ met_one q c items workers team rest told told' p p' w h each is ok now of' met =
     on_ok (Ok x) P h k = h
     on_ok (Err x) P h k = absurd cc
 
+-- if a team has put its items, so have all of it but the last worker
 pub rest_worked : (q : WorkQueue) (c : List ℕ) (items : List Item) (workers : ℕ) (team rest : List Worker) (w : Worker) → HaveWorked q c items workers team →
     team ≡ rest ++ w ∷ [] → HaveWorked q c items workers rest
 rest_worked q c items workers team rest w each is k d lt =

@@ -44,21 +44,26 @@ abbrev pub may_call_all : List FrameCall → Frames → Bool
 may_call_all [] x = true
 may_call_all (c ∷ cs) x = may_call c x && may_call_all cs (left_by c x)
 
+-- numbers in order by the test are in order
 le_is : (a b : ℕ) → nat_le a b ≡ true → a ≤ b
 le_is a b h = grind (arith, nat_tests)
 
+-- a flag whose negation is true is false
 not_is : (b : Bool) → not b ≡ true → b ≡ false
 not_is true h = cc
 not_is false h = refl
 
+-- if all lists of frames pass the test, the next name of each is at most the bound
 all_named : (n : ℕ) (parts : List (List Frame)) → list_all (λ fs. nat_le (next_name fs) n) parts ≡ true → All (λ fs. next_name fs ≤ n) parts
 all_named n parts h k d i =
     le_is (next_name (get_or parts k d)) n (AllPass-from_list_all (λ fs. nat_le (next_name fs) n) parts h k d i)
 
+-- if an optional frame is there and passes the test, its place is below 2 to the 32nd less one
 place_is : (o : Option Frame) → option_map_or (λ f. nat_lt f.place 4294967295) o false ≡ true → ForSome o (λ f. f.place < 4294967295)
 place_is None h f e = cc
 place_is (Some g) h f e = let s : g ≡ f = cc in rw (← s) (lt_is g.place 4294967295 h)
 
+-- a call of frames that passes the test may be made in those frames
 pub call_allowed : (c : FrameCall) (x : Frames) → may_call c x ≡ true → MayCall c x
 call_allowed (Begin b n) x h =
     let m : are_named_below n x ≡ true = and_right (may_begin b x) _ h in
@@ -83,6 +88,7 @@ call_allowed (Acquired k done) x h =
 call_allowed (Unlock k) x h = tt
 call_allowed Free x h = tt
 
+-- a list of calls of frames that passes the test may be made, each in the frames that the ones before it leave
 pub calls_allowed : (cs : List FrameCall) (x : Frames) → may_call_all cs x ≡ true → MayCallAll cs x
 unfolding MayCallAll
 calls_allowed [] x h = tt

@@ -32,6 +32,7 @@ use Rattle.nt_runs.proofs.Pending.{is_none_of, yes_if_true}
 abbrev pub Agree : Script → DpcNo → List Event → CpuNo → Type 0
 Agree s d past p = numbers_of d (pending s p past) ≡ numbers_at p (standing d past)
 
+-- the state of the object of a declared DPC is what the history tells of that DPC
 same_object : (s : Script) (d x : DpcNo) (past : List Event) → has_dpc s d ≡ true → x.0 ≡ d.0 → object_in (objects_at s past) x ≡ object_of d past
 same_object s d x past has e =
     ap (λ (n : ℕ). object_in (objects_at s past) (record { 0 = n })) e ∙ object_there s d past has
@@ -43,6 +44,7 @@ was_none s d x past has y e =
     is_none_of (standing d past) (ap is_queued (sym (same_object s d x past has e))
     ∙ not_true (is_queued (object_in (objects_at s past) x)) (yes_if_true (not (is_queued (object_in (objects_at s past) x))) (sym y)))
 
+-- an accepted insert finds the DPC in no queue, and the object's target is that of the history
 inserted : (s : Script) (d x : DpcNo) (past : List Event) (p by : CpuNo) → has_dpc s d ≡ true → Agree s d past p → Yes
     ≡ yes_if (not (is_queued (object_in (objects_at s past) x))) → x.0 ≡ d.0 → (numbers_of d (pending s p past) ≡ []) ×
     ((object_in (objects_at s past) x).target ≡ target_of d past)
@@ -67,6 +69,7 @@ removed s d x past p has ih e h =
     go None k = refl
     go (Some y) k = stands_elsewhere p y.queue y refl k
 
+-- an event of a run keeps queues and object of a declared DPC in agreement, on each processor
 agree_after : (s : Script) (limit : ℕ) (d : DpcNo) (e : Event) (past : List Event) → IsRun s limit (e ∷ past) → has_dpc s d ≡ true →
     ((q : CpuNo) → Agree s d past q) → (p : CpuNo) → Agree s d (e ∷ past) p
 agree_after s limit d e past r has ih p = go e.what refl
@@ -98,6 +101,7 @@ agree_after s limit d e past r has ih p = go e.what refl
         (λ i h. removed s d x past p has (ih p) i h)
     go w k = ih p
 
+-- in a run the inserts of a DPC in a queue are the one that its object says stands there, or none
 pub agree : (s : Script) (limit : ℕ) (d : DpcNo) (past : List Event) → IsRun s limit past → has_dpc s d ≡ true → (p : CpuNo) → Agree s d past p
 agree s limit d [] r has p = refl
 agree s limit d (e ∷ past) r has p =
@@ -111,6 +115,7 @@ pending_stands s limit d past r has p n k =
     (contains_number d (pending s p past) k.0 k.1 (ap (λ (d : DpcNo). d.0) k.2)) in
     stands_at p (standing d past) n (subst (λ (ns : List ℕ). Contains ns n) (agree s limit d past r has p) there)
 
+-- in a run a DPC has at most one pending insert, in one queue
 pub at_most_one : (s : Script) (limit : ℕ) (d : DpcNo) (past : List Event) → IsRun s limit past → has_dpc s d ≡ true → (p q : CpuNo) (n m : ℕ) →
     DpcIsPending s p d n past → DpcIsPending s q d m past → (p.0 ≡ q.0) × (n ≡ m)
 at_most_one s limit d past r has p q n m h k =

@@ -33,10 +33,12 @@ use Rattle.nt_runs.proofs.Rundown.Steps.{facts_there}
 
 -- ---- lists
 
+-- a pick put before two lists under the same test keeps the first list no longer than the second
 cons_both : (c : Bool) (y : Pick) (xs ys : List Pick) → length xs ≤ length ys → length (cond c (y ∷ xs) xs) ≤ length (cond c (y ∷ ys) ys)
 cons_both true y xs ys h = omega (arith, h)
 cons_both false y xs ys h = h
 
+-- a list no longer than another is no longer than that one with a pick put before it under a test
 cons_longer : (c : Bool) (y : Pick) (xs ys : List Pick) → length xs ≤ length ys → length xs ≤ length (cond c (y ∷ ys) ys)
 cons_longer true y xs ys h = omega (arith, h)
 cons_longer false y xs ys h = h
@@ -51,6 +53,7 @@ shorter p q (y ∷ ys) = go (q y) (shorter p q ys)
     go true h = cons_both (p y) y (filter p (filter q ys)) (filter p ys) h
     go false h = cons_longer (p y) y (filter p (filter q ys)) (filter p ys) h
 
+-- a filter by a test that no pick of the list passes leaves nothing
 none_kept : (p : Pick → Bool) (xs : List Pick) → list_any p xs ≡ false → filter p xs ≡ []
 none_kept p [] h = refl
 none_kept p (y ∷ ys) h = go (p y) h (λ k. none_kept p ys k)
@@ -59,6 +62,7 @@ none_kept p (y ∷ ys) h = go (p y) h (λ k. none_kept p ys k)
     go true k ih = cc
     go false k ih = ih k
 
+-- two elements of a list of at most one element are equal
 only_one : (xs : List Pick) (x y : Pick) → length xs ≤ 1 → Contains xs x → Contains xs y → x ≡ y
 only_one [] x y l h k = contains_none x h
 only_one (z ∷ []) x y l h k =
@@ -76,15 +80,18 @@ only_one (z ∷ (w ∷ zs)) x y l h k = absurd (omega (arith, l))
 abbrev pub count_of : ApcNo → List Pick → ℕ
 count_of a xs = length (filter (is_of_apc a) xs)
 
+-- an APC pending at most once is so after what its own thread makes
 made_once : (a : ApcNo) (w : What) (xs : List Pick) → count_of a xs ≤ 1 → count_of a (made_picks w xs) ≤ 1
 made_once a (Begin (Apc b) from) xs h = let k = shorter (is_of_apc a) (λ x. not (is_of_apc b x)) xs in omega (arith, h, k)
 made_once a (Flush b from) xs h = let k = shorter (is_of_apc a) (λ x. not (is_of_apc b x)) xs in omega (arith, h, k)
 made_once a w xs h = h
 
+-- a choice between two lists that each have an APC at most once has it at most once
 if_once : (a : ApcNo) (m : Bool) (xs ys : List Pick) → count_of a xs ≤ 1 → count_of a ys ≤ 1 → count_of a (if m then xs else ys) ≤ 1
 if_once a true xs ys h k = h
 if_once a false xs ys h k = k
 
+-- a new pick leaves an APC at most once among the picks if that APC was not pending when inserted
 put_once : (s : Script) (a b : ApcNo) (n : ℕ) (xs : List Pick) → count_of a xs ≤ 1 → (b.0 ≡ a.0 → list_any (is_of_apc a) xs ≡ false) →
     count_of a (new_pick s b n ∷ xs) ≤ 1
 put_once s a b n xs h new = go (b.0 == a.0) refl
@@ -93,6 +100,7 @@ put_once s a b n xs h new = go (b.0 == a.0) refl
     go true e = let k = ap (λ (xs : List Pick). length xs) (none_kept (is_of_apc a) xs (new (eqb-true b.0 a.0 e))) in omega (arith, k)
     go false e = h
 
+-- an APC pending at most once is so after what is done to its thread, if accepted inserts found none
 named_once : (s : Script) (a : ApcNo) (t : ThreadNo) (n : ℕ) (w : What) (xs : List Pick) → count_of a xs ≤ 1 →
     ((f : ℕ) (b : ApcNo) → w ≡ Call f (InsertApc b) Yes → b.0 ≡ a.0 → list_any (is_of_apc a) xs ≡ false) → count_of a (named_picks s t n w xs) ≤ 1
 named_once s a t n (Call f (InsertApc b) Yes) xs h new =
@@ -122,6 +130,7 @@ calls_make_none : (m : Bool) (w : What) (f : ℕ) (b : ApcNo) (xs : List Pick) �
 calls_make_none true w f b xs k = ap (λ (w : What). made_picks w xs) k
 calls_make_none false w f b xs k = refl
 
+-- in a run an APC stands at most once among the pending ones of its thread
 pub once : (s : Script) (limit : ℕ) (a : ApcNo) (past : List Event) → IsRun s limit past → has_thread s (owner_of s a) ≡ true →
     count_of a (facts s (owner_of s a) past).apcs.pending ≤ 1
 once s limit a [] r has = omega arith
@@ -135,6 +144,7 @@ once s limit a (e ∷ past) r has =
     (λ f b k same. subst (λ (xs : List Pick). list_any (is_of_apc a) xs ≡ false) (sym (calls_make_none mine e.what f b xs k))
     (was_out s limit a b e past f r has k same)))
 
+-- in a run an APC has at most one pending insert, at one thread
 pub at_most_one_apc : (s : Script) (limit : ℕ) (a : ApcNo) (past : List Event) → IsRun s limit past → has_thread s (owner_of s a) ≡ true →
     (t u : ThreadNo) (n m : ℕ) → ApcIsPending s t a n past → ApcIsPending s u a m past → (t.0 ≡ u.0) × (n ≡ m)
 at_most_one_apc s limit a past r has t u n m h k =

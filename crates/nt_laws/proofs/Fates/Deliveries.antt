@@ -42,6 +42,7 @@ use Rattle.nt_runs.proofs.Rundown.Steps.{facts_there}
 
 -- ---- the first ones are pending
 
+-- the first DPC found in a part is one of the pending inserts
 pub first_dpc_pending : (part : Part) (xs : List Insert) (x : Insert) → first_dpc part xs ≡ Some x → Contains xs x
 first_dpc_pending part xs x h =
     elim (or_gives (find (is_high_in part) xs) (find (is_in part) (reverse xs)) x h) [
@@ -49,10 +50,12 @@ first_dpc_pending part xs x h =
       | inr low ↦ reversed_contains xs x (found_contains (is_in part) (reverse xs) x low).0
     ]
 
+-- the first APC of a kind is one of the pending ones
 kind_pending : (k : ApcKind) (q : ApcQueues) (x : Pick) → first_of_kind k q ≡ Some x → Contains q.pending x
 kind_pending k q x h =
     reversed_contains q.pending x (found_contains (is_of_kind k) (reverse q.pending) x h).0
 
+-- the first kernel APC is one of the pending ones
 kernel_pending : (q : ApcQueues) (x : Pick) → first_kernel q ≡ Some x → Contains q.pending x
 kernel_pending q x h =
     elim (or_gives (first_of_kind SpecialApc q) (first_of_kind NormalApc q) x h) [
@@ -60,6 +63,7 @@ kernel_pending q x h =
       | inr normal ↦ kind_pending NormalApc q x normal
     ]
 
+-- a deliverable kernel APC is one of the pending ones
 deliverable_pending : (q : ApcQueues) (r : Regions) (level : ℕ) (x : Pick) → deliverable q r level ≡ Some x → Contains q.pending x
 deliverable_pending q r level x h = go (first_kernel q) refl h
   where
@@ -69,12 +73,14 @@ deliverable_pending q r level x h = go (first_kernel q) refl h
         let w = when_gives ((level == 0) && lets_through r y.kind) (Some y) x k in
         kernel_pending q x (e ∙ w.1)
 
+-- a user APC that is due is one of the thread's pending ones
 user_due_pending : (x : ThreadFacts) (y : Pick) → user_due x ≡ Some y → Contains x.apcs.pending y
 user_due_pending x y h =
     kind_pending UserApc x.apcs y (when_gives x.user_pending (first_user x.apcs) y h).1
 
 -- ---- where they are pending
 
+-- a DPC insert known as the first of its part is pending in the queue of its processor
 dpc_named : (s : Script) (p : CpuNo) (past : List Event) (part : Part) (d : DpcNo) (from : ℕ) → nat_lt p.0 s.cpus ≡ true →
     KnownInsert part (queue_at (lanes_at s past) p) d from → DpcIsPending s p d from past
 dpc_named s p past part d from has k =
@@ -93,6 +99,7 @@ at_running s limit p past a from x r i n (Some t) e h =
     let owner : t ≡ owner_of s a = ap (λ (n : ℕ). record { 0 = n }) (sym (owners_fit s t past x there)) ∙ ap (owner_of s) (sym i) in
     (e ∙ ap Some owner, (x, subst (λ (t : ThreadNo). Contains (facts s t past).apcs.pending x) owner there, sym i, sym n))
 
+-- in a run an APC known as the next to begin is pending at its owner, which runs on the processor
 apc_named : (s : Script) (limit : ℕ) (p : CpuNo) (past : List Event) (a : ApcNo) (from : ℕ) → IsRun s limit past →
     KnownBegin s p (own_of s p past) (lanes_at s past) (Apc a) from → (running p past ≡ Some (owner_of s a)) × ApcIsPending s (owner_of s a) a from past
 apc_named s limit p past a from r (inl k) =
@@ -104,6 +111,7 @@ apc_named s limit p past a from r (inr k) =
     at_running s limit p past a from k.1.pick r k.1.apc k.1.number (running p past) refl
     (user_due_pending (facts_of (lanes_at s past) (running p past)) k.1.pick k.1.first)
 
+-- in a run what a processor is known to do next names a pending insert if it delivers one
 names : (s : Script) (limit : ℕ) (p : CpuNo) (past : List Event) (w : What) → IsRun s limit past → nat_lt p.0 s.cpus ≡ true →
     (is_next w ≡ true → Known s p (own_of s p past) (lanes_at s past) w) → NamesPending s p w past
 names s limit p past (Begin (Dpc d) from) r has k = dpc_named s p past OrdinaryPart d from has (k refl).1
@@ -115,6 +123,7 @@ names s limit p past (Flush a from) r has k =
     (kind_pending UserApc (facts_at (lanes_at s past) q.0).apcs q.2.pick q.2.first)
 names s limit p past w r has k = tt
 
+-- in a run each begin of a DPC or APC and each flush names an insert that was pending just before it
 pub deliveries_name_pending_inserts : (s : Script) (limit : ℕ) (e : Event) (past : List Event) → IsRun s limit (e ∷ past) → NamesPending s e.cpu e.what past
 deliveries_name_pending_inserts s limit e past r =
     names s limit e.cpu past e.what r.1 (legal_cpu s limit e past r.0) (legal_known s limit e past r.0)

@@ -14,11 +14,13 @@ use Rattle.nt_event.specs.Queues.{add_insert, drop_insert, is_of_dpc, is_queue, 
 use Rattle.nt_laws.specs.Fates.{numbers_at, numbers_of}
 use Rattle.nt_event.proofs.Elements.{contains_cases, contains_kept, contains_mapped, contains_none, kept_contains, mapped_contains}
 
+-- an insert put before a queue adds its number to those of its own DPC and to no others
 cons_numbers : (d : DpcNo) (y : Insert) (ys : List Insert) (b : Bool) → (y.dpc.0 == d.0) ≡ b → numbers_of d (y ∷ ys)
     ≡ (if b then (y.number ∷ numbers_of d ys) else numbers_of d ys)
 cons_numbers d y ys true e = rw e refl
 cons_numbers d y ys false e = rw e refl
 
+-- dropping the inserts of a DPC leaves none of its numbers
 dropped_same : (d x : DpcNo) (xs : List Insert) → x.0 ≡ d.0 → numbers_of d (without_dpc x xs) ≡ []
 dropped_same d x [] h = refl
 dropped_same d x (y ∷ ys) h = go (y.dpc.0 == x.0) refl (dropped_same d x ys h)
@@ -28,6 +30,7 @@ dropped_same d x (y ∷ ys) h = go (y.dpc.0 == x.0) refl (dropped_same d x ys h)
     go false e ih =
         cons_numbers d y (without_dpc x ys) false (ap (λ (n : ℕ). y.dpc.0 == n) (sym h) ∙ e) ∙ ih
 
+-- dropping the inserts of one DPC leaves the numbers of another as they were
 dropped_other : (d x : DpcNo) (xs : List Insert) → (x.0 == d.0) ≡ false → numbers_of d (without_dpc x xs) ≡ numbers_of d xs
 dropped_other d x [] h = refl
 dropped_other d x (y ∷ ys) h =
@@ -43,6 +46,7 @@ dropped_other d x (y ∷ ys) h =
     go false false e f ih =
         cons_numbers d y (without_dpc x ys) false f ∙ (ih ∙ sym (cons_numbers d y ys false f))
 
+-- the number of an object's insert is listed at the queue that holds it and at no other
 pub placed : (p : CpuNo) (x : Standing) (c : Bool) → (x.queue.0 == p.0) ≡ c → numbers_at p (Some x) ≡ (if c then (x.number ∷ []) else [])
 placed p x true e = rw e refl
 placed p x false e = rw e refl
@@ -94,10 +98,12 @@ drop_step p d x by w objects old st ih left =
 
 -- ---- numbers and pending inserts
 
+-- the number of an insert of a DPC in a queue is among the DPC's numbers there
 pub contains_number : (d : DpcNo) (xs : List Insert) (x : Insert) → Contains xs x → x.dpc.0 ≡ d.0 → Contains (numbers_of d xs) x.number
 contains_number d xs x h e =
     contains_mapped (λ (x : Insert). x.number) (filter (is_of_dpc d) xs) x (contains_kept (is_of_dpc d) xs x h (eq-eqb x.dpc.0 d.0 e))
 
+-- each of a DPC's numbers in a queue is that of one of its inserts there
 pub number_contains : (d : DpcNo) (xs : List Insert) (n : ℕ) → Contains (numbers_of d xs) n → (x : Insert) × Contains xs x × (x.dpc.0 ≡ d.0) × (x.number ≡ n)
 number_contains d xs n h =
     let r = mapped_contains (λ (x : Insert). x.number) (filter (is_of_dpc d) xs) n h in

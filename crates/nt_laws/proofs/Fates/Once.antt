@@ -29,11 +29,13 @@ dpc_waits s limit d past r has p n k =
     let a = pending_stands s limit d past r has p n k in
     subst (λ (n : ℕ). Waits (DpcThing d) n past) a.3 (standing_waits d past a.0 a.1)
 
+-- in a run an APC insert that is pending at its thread waits
 pub apc_waits : (s : Script) (limit : ℕ) (a : ApcNo) (past : List Event) → IsRun s limit past → (n : ℕ) → ApcIsPending s (owner_of s a) a n past →
     Waits (ApcThing a) n past
 apc_waits s limit a past r n k =
     subst (λ (n : ℕ). Waits (ApcThing a) n past) k.3 (picks_wait s limit a past k.0 r k.1 k.2)
 
+-- in a run a DPC insert that is pending in a queue waits
 dpc_at : (s : Script) (limit : ℕ) (d x : DpcNo) (past : List Event) (p : CpuNo) (n from : ℕ) → IsRun s limit past → has_dpc s d ≡ true →
     DpcIsPending s p x from past → ((x.0 == d.0) && (from == n)) ≡ true → Waits (DpcThing d) n past
 dpc_at s limit d x past p n from r has k h =
@@ -41,6 +43,7 @@ dpc_at s limit d x past p n from r has k h =
     let same : x ≡ d = ap (λ (n : ℕ). record { 0 = n }) (eqb-true x.0 d.0 w.0) in
     dpc_waits s limit d past r has p n (k.0, k.1, k.2 ∙ same, k.3 ∙ eqb-true from n w.1)
 
+-- in a run a pending APC insert that a test tells to be the APC's with the number waits
 apc_at : (s : Script) (limit : ℕ) (a x : ApcNo) (past : List Event) (n from : ℕ) → IsRun s limit past → ApcIsPending s (owner_of s x) x from past →
     ((x.0 == a.0) && (from == n)) ≡ true → Waits (ApcThing a) n past
 apc_at s limit a x past n from r k h =
@@ -49,9 +52,11 @@ apc_at s limit a x past n from r k h =
     subst (λ (n : ℕ). Waits (ApcThing a) n past) (eqb-true from n w.1)
     (subst (λ (a : ApcNo). Waits (ApcThing a) from past) same (apc_waits s limit x past r from k))
 
+-- anything follows if false is true
 never : {A : Type 0} → false ≡ true → A
 never h = cc
 
+-- in a run an insert that an event delivers, and names as pending, waits just before it
 waiting : (s : Script) (limit : ℕ) (p : CpuNo) (past : List Event) (w : What) (thing : Thing) (n : ℕ) → IsRun s limit past → NamesPending s p w past →
     is_declared s thing ≡ true → delivers thing n w ≡ true → Waits thing n past
 waiting s limit p past (Begin (Dpc x) from) (DpcThing d) n r k has h = dpc_at s limit d x past p n from r has k h
@@ -61,6 +66,7 @@ waiting s limit p past (Flush x from) (ApcThing a) n r k has h = apc_at s limit 
 waiting s limit p past w (DpcThing d) n r k has h = never h
 waiting s limit p past w (ApcThing a) n r k has h = never h
 
+-- in a run the insert that an event delivers was waiting just before it
 pub delivered_inserts_wait : (s : Script) (limit : ℕ) (e : Event) (past : List Event) (thing : Thing) (n : ℕ) → IsRun s limit (e ∷ past) → is_declared s thing
     ≡ true → delivers thing n e.what ≡ true → Waits thing n past
 delivered_inserts_wait s limit e past thing n r has h =
@@ -68,6 +74,7 @@ delivered_inserts_wait s limit e past thing n r has h =
 
 -- ---- a delivery uses up what it delivers
 
+-- what delivers an insert uses it up
 delivers_uses : (thing : Thing) (n : ℕ) (w : What) → delivers thing n w ≡ true → uses_up thing n w ≡ true
 delivers_uses (DpcThing d) n (Begin (Dpc x) from) h = h
 delivers_uses (DpcThing d) n (Begin (Threaded x) from) h = h
@@ -76,11 +83,13 @@ delivers_uses (ApcThing a) n (Flush x from) h = h
 delivers_uses (DpcThing d) n w h = never h
 delivers_uses (ApcThing a) n w h = never h
 
+-- an event that uses up an insert gives it a fate other than waiting
 fate_comes : (w : What) (n : ℕ) → fate_by w n ≡ StillWaits → ⊥
 fate_comes (Begin b from) n h = cc
 fate_comes (Flush a from) n h = cc
 fate_comes w n h = cc
 
+-- if the first of two fates is to wait still, both are
 first_waits : (x y : Fate) → first_fate x y ≡ StillWaits → (x ≡ StillWaits) × (y ≡ StillWaits)
 first_waits StillWaits y h = (refl, h)
 first_waits (BegunBy n) y h = cc
@@ -105,6 +114,7 @@ not_delivered s limit (e ∷ past) thing n r has h f c =
         let before = (delivered_inserts_wait s limit e past thing n r has k).0 in
         absurd (fate_comes e.what (length past) (sym (rw (lt-ltb n (length past) before, delivers_uses thing n e.what k) refl) ∙ u))
 
+-- in a run an insert that an event delivers was delivered by no earlier event
 pub no_insert_is_delivered_twice : (s : Script) (limit : ℕ) (e : Event) (past : List Event) (thing : Thing) (n : ℕ) → IsRun s limit (e ∷ past) →
     is_declared s thing ≡ true → delivers thing n e.what ≡ true → (f : Event) → Contains past f → delivers thing n f.what ≡ false
 no_insert_is_delivered_twice s limit e past thing n r has h f c =

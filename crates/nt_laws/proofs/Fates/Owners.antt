@@ -15,15 +15,18 @@ use Rattle.nt_event.specs.Script.{routine_fits, thread_fits, timer_fits, where_g
 use Rattle.nt_event.specs.Numbers.{thread}
 use Rattle.nt_event.proofs.Options.{both}
 
+-- a conjunction of five parts has a true first part if it is true
 first_of_five : (a b c d e : Bool) → (a && b && c && d && e) ≡ true → a ≡ true
 first_of_five true b c d e h = refl
 first_of_five false b c d e h = cc
 
+-- an APC declaration that fits names a declared thread
 apc_thread : (s : Script) (x : ApcDecl) → apc_fits s x ≡ true → has_thread s x.thread ≡ true
 apc_thread s x h =
     first_of_five (has_thread s x.thread) (has_routine s x.kernel) (where_given (has_routine s) x.normal) (where_given (has_routine s) x.rundown)
     (apc_has_its_routines x.kind x.normal x.rundown) h
 
+-- where each APC declaration of a list fits, the one at a place names a declared thread
 fits_at : (s : Script) (xs : List ApcDecl) (i : ℕ) → list_all (apc_fits s) xs ≡ true → i < length xs →
     has_thread s (option_map_or (λ x. x.thread) (slice_get xs i) (thread 0)) ≡ true
 fits_at s [] i h l = absurd (omega (arith, l))
@@ -44,6 +47,7 @@ before_apcs s =
     && list_all (timer_fits s) s.timers
     && list_all (thread_fits s) s.threads
 
+-- in a script that fits, the thread of a declared APC is declared
 pub apcs_have_their_threads : (s : Script) (a : ApcNo) → fits s ≡ true → has_apc s a ≡ true → has_thread s (owner_of s a) ≡ true
 apcs_have_their_threads s a h has =
     let apcs = (both (before_apcs s && list_all (apc_fits s) s.apcs) (list_all (routine_fits s) s.routines) h).0 in

@@ -49,19 +49,23 @@ named_picks s t n w xs = xs
 abbrev pub picks_after : Script → ThreadNo → ℕ → Bool → What → List Pick → List Pick
 picks_after s t n mine w xs = named_picks s t n w (if mine then made_picks w xs else xs)
 
+-- threads with equal APC queues have equal pending APCs
 of_apcs : (x y : ThreadFacts) → x.apcs ≡ y.apcs → x.apcs.pending ≡ y.apcs.pending
 of_apcs x y h = ap (λ q. q.pending) h
 
+-- taking an APC leaves the thread's pending ones without it
 taken_picks : (k : ApcKind) (a : ApcNo) (x : ThreadFacts) → (apc_taken k a x).apcs.pending ≡ without_pick a x.apcs.pending
 taken_picks UserApc a x = refl
 taken_picks SpecialApc a x = refl
 taken_picks NormalApc a x = refl
 
+-- the end of a frame leaves the thread's pending APCs as they were
 ended_picks : (b : Option Body) (x : ThreadFacts) → (frame_ended b x).apcs.pending ≡ x.apcs.pending
 ended_picks (Some (OnBase t)) x = refl
 ended_picks (Some (OnApc a UserApc)) x = of_apcs (alert_tested UserMode x) x (tested_apcs UserMode x)
 ended_picks b x = refl
 
+-- what a thread itself makes leaves its pending APCs as the picks alone tell
 made_so : (s : Script) (n : ℕ) (st : Stand) (w : What) (x : ThreadFacts) → (made_facts s n st w x).apcs.pending ≡ made_picks w x.apcs.pending
 made_so s n st (Call f (StartWait m a) y) x = of_apcs (waited n st.regions st.level m a false y x) x (waited_apcs n st.regions st.level m a false y x)
 made_so s n st (Call f (Delay m a u) y) x = of_apcs (waited n st.regions st.level m a true y x) x (waited_apcs n st.regions st.level m a true y x)
@@ -76,6 +80,7 @@ made_so s n st (Gone t) x = refl
 made_so s n st (Switch t status) x = refl
 made_so s n st w x = refl
 
+-- an insert puts its pick before the thread's pending APCs
 insert_picks : (pick : Pick) (x : ThreadFacts) → (insert_facts pick x).apcs.pending ≡ pick ∷ x.apcs.pending
 insert_picks pick x = go (ends_by_apc pick x) (is_kernel_kind pick.kind)
   where
@@ -86,11 +91,13 @@ insert_picks pick x = go (ends_by_apc pick x) (is_kernel_kind pick.kind)
     go true false = refl
     go false k = refl
 
+-- a choice between two threads' facts has the pending APCs of the one chosen
 if_picks : (b : Bool) (x y : ThreadFacts) (xs ys : List Pick) → x.apcs.pending ≡ xs → y.apcs.pending ≡ ys → (if b then x else y).apcs.pending
     ≡ (if b then xs else ys)
 if_picks true x y xs ys h k = h
 if_picks false x y xs ys h k = k
 
+-- what is done to a named thread leaves its pending APCs as the picks alone tell
 named_so : (s : Script) (t : ThreadNo) (n : ℕ) (w : What) (x : ThreadFacts) → (named_facts s t n w x).apcs.pending ≡ named_picks s t n w x.apcs.pending
 named_so s t n (Call f (Release u) y) x =
     of_apcs (named_facts s t n (Call f (Release u) y) x) x (if_apcs (is_answer y && (u.0 == t.0)) (release_facts x) x x.apcs (release_apcs x) refl)
@@ -126,11 +133,13 @@ abbrev pub PutsPick : Script → ThreadNo → ℕ → What → Pick → Type 0
 PutsPick s t n (Call f (InsertApc a) Yes) x = ((owner_of s a).0 ≡ t.0) × (x ≡ new_pick s a n)
 PutsPick s t n w x = ⊥
 
+-- a pick that is pending after what its own thread makes was pending before
 made_kept : (w : What) (xs : List Pick) (x : Pick) → Contains (made_picks w xs) x → Contains xs x
 made_kept (Begin (Apc a) from) xs x h = (kept_contains (λ x. not (is_of_apc a x)) xs x h).0
 made_kept (Flush a from) xs x h = (kept_contains (λ x. not (is_of_apc a x)) xs x h).0
 made_kept w xs x h = h
 
+-- a pick that is pending after what is done to its thread was put there by it or was pending before
 named_kept : (s : Script) (t : ThreadNo) (n : ℕ) (w : What) (xs : List Pick) (x : Pick) → Contains (named_picks s t n w xs) x → PutsPick s t n w x ⊎
     Contains xs x
 named_kept s t n (Call f (InsertApc a) Yes) xs x h = go ((owner_of s a).0 == t.0) refl h
@@ -160,6 +169,7 @@ picks_kept s t n true w xs x h =
     ]
 picks_kept s t n false w xs x h = named_kept s t n w xs x h
 
+-- a pick that an event puts at a thread is of an APC that the thread owns
 put_owner : (s : Script) (t : ThreadNo) (n : ℕ) (w : What) (x : Pick) → PutsPick s t n w x → (owner_of s x.apc).0 ≡ t.0
 put_owner s t n (Call f (InsertApc a) Yes) x h = ap (λ (x : Pick). (owner_of s x.apc).0) h.1 ∙ h.0
 put_owner s t n w x h = absurd h

@@ -31,14 +31,17 @@ use Rattle.nt_laws.proofs.Fates.Picks.{PutsPick, made_picks, named_picks, picks_
 
 -- ---- fates
 
+-- a waiting insert still waits after an event that doesn't use it up as an earlier one
 pub waits_on : (thing : Thing) (n : ℕ) (e : Event) (past : List Event) → fate_of thing n past ≡ StillWaits → (nat_lt n (length past) && uses_up thing n e.what)
     ≡ false → fate_of thing n (e ∷ past) ≡ StillWaits
 waits_on thing n e past h k = rw (h, k) refl
 
+-- a conjunction is false if its first part is false
 pub no_test : (a b : Bool) → a ≡ false → (a && b) ≡ false
 no_test true b h = cc
 no_test false b h = refl
 
+-- a conjunction is false if its second part is false
 no_second : (a b : Bool) → b ≡ false → (a && b) ≡ false
 no_second true b h = h
 no_second false b h = refl
@@ -53,6 +56,7 @@ later_waits thing n (e ∷ past) h =
 abbrev pub Waits : Thing → ℕ → List Event → Type 0
 Waits thing n past = (n < length past) × (fate_of thing n past ≡ StillWaits)
 
+-- an insert made by the newest event waits
 pub new_waits : (thing : Thing) (e : Event) (past : List Event) → Waits thing (length past) (e ∷ past)
 new_waits thing e past = (
   omega arith,
@@ -60,6 +64,7 @@ new_waits thing e past = (
       (no_test (nat_lt (length past) (length past)) _ (le-ltb (length past) (length past) (omega arith))),
 )
 
+-- an insert that waits goes on waiting after an event that doesn't use it up
 pub still_waits_on : (thing : Thing) (n : ℕ) (e : Event) (past : List Event) → Waits thing n past → uses_up thing n e.what ≡ false → Waits thing n (e ∷ past)
 still_waits_on thing n e past w h =
     let l = w.0 in
@@ -67,6 +72,7 @@ still_waits_on thing n e past w h =
 
 -- ---- DPC objects
 
+-- an event that uses up no insert of a DPC uses up none of its numbers
 pub unused_dpc : (d : DpcNo) (n : ℕ) (w : What) → is_dpc (used_up_dpc w) d ≡ false → uses_up (DpcThing d) n w ≡ false
 unused_dpc d n (Begin (Dpc x) from) h = no_test (x.0 == d.0) (from == n) h
 unused_dpc d n (Begin (Threaded x) from) h = no_test (x.0 == d.0) (from == n) h
@@ -104,6 +110,7 @@ its_own s limit t e past w r k field run =
     both_true true b h k = k
     both_true false b h k = cc
 
+-- no pick of an APC is left where that APC's picks are dropped
 not_without : {A : Type 0} (a b : ApcNo) (xs : List Pick) (x : Pick) → Contains (without_pick b xs) x → x.apc ≡ a → b.0 ≡ a.0 → A
 not_without a b xs x h i e =
     let k : not (x.apc.0 == b.0) ≡ true = (kept_contains (λ x. not (is_of_apc b x)) xs x h).1 in
@@ -167,6 +174,7 @@ unused_apc s limit a e past x r h i = go e.what refl h
         else (facts s (owner_of s a) past).apcs.pending) refl h
     go w k h = refl
 
+-- an APC that an event inserts at a thread has the event's number
 pub put_number : (s : Script) (t : ThreadNo) (n : ℕ) (w : What) (x : Pick) → PutsPick s t n w x → n ≡ x.number
 put_number s t n (Call f (InsertApc a) Yes) x h = ap (λ (x : Pick). x.number) (sym h.1)
 put_number s t n w x h = absurd h

@@ -42,19 +42,23 @@ abbrev AreUsed : List Ask → Type 0
 AreUsed [] = Unit {0}
 AreUsed (a ∷ xs) = (is_used_class a.class ≡ true) × AreUsed xs
 
+-- an ask made under a condition is of a used class if its class is used
 used_if : (b : Bool) (p : CpuNo) (c : ℕ) → is_used_class c ≡ true → AreUsed (ask_if b p c)
 used_if true p c h = (h, tt)
 used_if false p c h = tt
 
+-- two lists of asks of used classes make one such list
 used_both : (xs ys : List Ask) → AreUsed xs → AreUsed ys → AreUsed (xs ++ ys)
 used_both [] ys h k = k
 used_both (x ∷ xs) ys h k = (h.0, used_both xs ys h.1 k)
 
+-- what a DPC's insert asks for is of used classes
 dpc_used : (s : Script) (part : Part) (o : ObjectState) (by q : CpuNo) (x : QueueState) → AreUsed (dpc_asks s part o by q x)
 dpc_used s ThreadedPart o by q x = (refl, tt)
 dpc_used s OrdinaryPart o by q x =
     used_if (insert_asks o.importance (q.0 == by.0) (nat_lt (depth_limit s) (depth_of x.pending + 1)) x.idle) q 2 refl
 
+-- a requested level is a used class
 requested_used : (level : ℕ) → is_requested_level level ≡ true → is_used_class level ≡ true
 requested_used level h = go (nat_le 3 level) (nat_le level 11) (level == 14) refl h
   where
@@ -71,10 +75,12 @@ requested_used level h = go (nat_le 3 level) (nat_le level 11) (level == 14) ref
         or_right true y q = refl
         or_right false y q = q
 
+-- what spinning processors are asked for is of used classes
 spinners_used : (n : ℕ) (xs : List Bool) → AreUsed (spinner_asks n xs)
 spinners_used n [] = tt
 spinners_used n (b ∷ xs) = used_both (ask_if b (cpu n) 12) (spinner_asks (suc n) xs) (used_if b (cpu n) 12 refl) (spinners_used (suc n) xs)
 
+-- what a command that fits asks for is of used classes
 command_used : (s : Script) (st : Stand) (c : Command) (y : Reply) (l : Lanes) → command_fits s c ≡ true → AreUsed (command_asks s st c y l)
 command_used s st (Queue d) Yes l h = dpc_used s (part_of s d) (object_at l d) st.cpu (queue_for (object_at l d).target st.cpu)
     (queue_at l (queue_for (object_at l d).target st.cpu))
@@ -92,11 +98,13 @@ command_used s st (Clock units) Done l h = (refl, tt)
 command_used s st (Unlock k) Done l h = spinners_used 0 (lock_at l k).spinners
 command_used s st c y l h = tt
 
+-- what the end of a body asks for is of used classes
 end_used : (st : Stand) (b : Option Body) (l : Lanes) → AreUsed (end_asks st b l)
 end_used st (Some (OnApc a NormalApc)) l = (refl, tt)
 end_used st (Some (OnBase t)) l = used_if (some_came_to_0 st.regions st.below || has_kernel (facts_of l st.thread).apcs) st.cpu 1 refl
 end_used st b l = used_if (some_came_to_0 st.regions st.below) st.cpu 1 refl
 
+-- what an event that fits asks for is of used classes
 what_used : (s : Script) (st : Stand) (w : What) (l : Lanes) → what_fits s w ≡ true → AreUsed (what_asks s st w l)
 what_used s st (Call f c y) l h = command_used s st c y l h
 what_used s st (Fire d Yes) l h = dpc_used s (part_of s d) (object_at l d) st.cpu (queue_for (object_at l d).target st.cpu)
@@ -108,6 +116,7 @@ what_used s st (End f) l h = end_used st st.body l
 what_used s st (Free f k) l h = spinners_used 0 (lock_at l k).spinners
 what_used s st w l h = tt
 
+-- a class that is asked for in a list of asks of used classes is used
 used_among : (p : CpuNo) (c : ℕ) (xs : List Ask) → AreUsed xs → list_any (is_ask p c) xs ≡ true → is_used_class c ≡ true
 used_among p c [] h k = cc
 used_among p c (a ∷ xs) h k = go (a.cpu.0 == p.0) (a.class == c) refl k (used_among p c xs h.1)

@@ -52,6 +52,7 @@ use Rattle.nt_runs.proofs.HeldFits.{last_declared}
 
 -- ---- frames
 
+-- the head of a list of frames named below a number is named below it
 head_below : (n : ℕ) (fs : List Frame) (f : Frame) → AllBelow n fs → head_of fs ≡ Some f → f.name < n
 head_below n [] f h e = cc
 head_below n (g ∷ fs) f h e = let same : g ≡ f = cc in subst (λ (x : Frame). x.name < n) same h.0
@@ -78,6 +79,7 @@ inner_below s limit p past f r e = own (own_frames p past) refl e
 
 -- ---- requests
 
+-- a table of sixteen values at most n has at most n at each class
 below_all : (n c : ℕ) (f : ℕ → ℕ) → ((k : ℕ) → f k ≤ n) → value_at (table 16 f) c ≤ n
 below_all n c f h = go (nat_lt c 16) refl
   where
@@ -108,12 +110,15 @@ interrupt_below s limit p past c from r k =
 abbrev WhatFits : Script → ℕ → What → Type 0
 WhatFits s n w = (what_fits s w ≡ true) × (keeps_to_classes w ≡ true) × IfSome (earlier w) (λ m. m < n)
 
+-- a number passes the test of being equal to itself
 named_here : (n : ℕ) → (n == n) ≡ true
 named_here n = eq-eqb n n refl
 
+-- a number up to two passes the test for a clean step
 clean_fits : (c : ℕ) → (c ≤ 2) → nat_le c 2 ≡ true
 clean_fits c h = grind (arith, nat_tests)
 
+-- in a run the thread that runs on a processor, if any, is declared
 is_given : (s : Script) (limit : ℕ) (p : CpuNo) (past : List Event) → IsRun s limit past → where_given (has_thread s) (running p past) ≡ true
 is_given s limit p past r = go (running p past) refl
   where
@@ -121,10 +126,12 @@ is_given s limit p past r = go (running p past) refl
     go None k = refl
     go (Some t) k = (running_has_base s limit p t past r k).1
 
+-- what holds of an optional value if there is one holds of the value that it has
 is_some_at : {A : Type 0} (P : A → Type 0) (o : Option A) (x : A) → IfSome o P → o ≡ Some x → P x
 is_some_at P None x h e = cc
 is_some_at P (Some y) x h e = let same : y ≡ x = cc in subst P same h
 
+-- in a run of a script that fits, an event after events that fit fits in what it does
 what_of : (s : Script) (limit : ℕ) (e : Event) (past : List Event) → fits s ≡ true → IsRun s limit (e ∷ past) → AllFit s past → (w : What) → e.what ≡ w →
     WhatFits s (length past) w
 what_of s limit e past h r all w eq = go w eq
@@ -208,6 +215,7 @@ what_of s limit e past h r all w eq = go w eq
         let q = known (Gone t) k refl in ((running_has_base s limit e.cpu t past r.1 q.0.thread).1, refl, tt)
     go Rest k = (refl, refl, tt)
 
+-- in a run an event that fits in what it does is by a declared thread, if by any
 thread_fits : (s : Script) (limit : ℕ) (e : Event) (past : List Event) → IsRun s limit (e ∷ past) → what_fits s e.what ≡ true →
     where_given (has_thread s) e.thread ≡ true
 thread_fits s limit e past r h =
@@ -218,6 +226,7 @@ thread_fits s limit e past r h =
     go (Look x) k = refl
     go w k = is_given s limit e.cpu past r.1
 
+-- in a run a look is by no thread and at level zero
 look_plain : (s : Script) (limit : ℕ) (e : Event) (past : List Event) → IsRun s limit (e ∷ past) → is_look e.what ≡ true → (e.thread ≡ None) × (e.level ≡ 0)
 look_plain s limit e past r h = go e.what refl h
   where
@@ -228,6 +237,7 @@ look_plain s limit e past r h = go e.what refl h
         (sym (ap (λ (f : Event). f.thread) same), sym (ap (λ (f : Event). f.level) same))
     go w k l = cc
 
+-- each event of a run of a script that fits names declared things and earlier events
 pub events_of_a_run_fit : (s : Script) (limit : ℕ) (past : List Event) → fits s ≡ true → IsRun s limit past → AllFit s past
 events_of_a_run_fit s limit [] h r = tt
 events_of_a_run_fit s limit (e ∷ past) h r =

@@ -25,6 +25,7 @@ use Rattle.nt_event.specs.Fitting.{what_fits}
 
 -- ---- DPCs
 
+-- the DPC that an event that fits inserts is declared
 inserted_fits : (s : Script) (w : What) (d : DpcNo) → what_fits s w ≡ true → inserted_dpc w ≡ Some d → has_dpc s d ≡ true
 inserted_fits s (Call f (Queue x) Yes) d h e = let same : x ≡ d = cc in subst (λ (y : DpcNo). has_dpc s y ≡ true) same h
 inserted_fits s (Fire x Yes) d h e = let same : x ≡ d = cc in subst (λ (y : DpcNo). has_dpc s y ≡ true) same h
@@ -33,6 +34,7 @@ inserted_fits s w d h e = cc
 abbrev AreDeclared : Script → List Insert → Type 0
 AreDeclared s xs = (x : Insert) → Contains xs x → has_dpc s x.dpc ≡ true
 
+-- inserts of declared DPCs stay so when a declared DPC is added
 added : (s : Script) (p : CpuNo) (n : ℕ) (by : CpuNo) (o : Option DpcNo) (objects : List ObjectState) (old : List Insert) →
     ((d : DpcNo) → o ≡ Some d → has_dpc s d ≡ true) → AreDeclared s old → AreDeclared s (add_insert s p n by o objects old)
 added s p n by None objects old h k = k
@@ -49,6 +51,7 @@ added s p n by (Some d) objects old h k = go ((queue_for (object_in objects d).t
         ]
     go false = k
 
+-- inserts of declared DPCs stay so when an event drops one
 dropped : (s : Script) (p by : CpuNo) (w : What) (o : Option DpcNo) (objects : List ObjectState) (old : List Insert) → AreDeclared s old →
     AreDeclared s (drop_insert p by w o objects old)
 dropped s p by w None objects old k = k
@@ -68,6 +71,7 @@ pending_fits s p (e ∷ past) h x c =
 
 -- ---- APCs
 
+-- an APC that an event that fits puts at a thread is declared
 put_fits : (s : Script) (t : ThreadNo) (n : ℕ) (w : What) (x : Pick) → what_fits s w ≡ true → PutsPick s t n w x → has_apc s x.apc ≡ true
 put_fits s t n (Call f (InsertApc a) Yes) x h put = let same : a ≡ x.apc = sym (ap (λ (y : Pick). y.apc) put.1) in
     subst (λ (y : ApcNo). has_apc s y ≡ true) same h

@@ -20,6 +20,7 @@ use Rattle.nt_laws.proofs.Fates.Owners.{apcs_have_their_threads}
 use Rattle.nt_laws.proofs.Fates.Removals.{removals_tell}
 use Rattle.nt_laws.proofs.Named.EventsFit.{events_of_a_run_fit}
 
+-- a DPC with the number of a declared one is declared
 named_dpc : (s : Script) (d x : DpcNo) (n from : ℕ) → has_dpc s x ≡ true → ((x.0 == d.0) && (from == n)) ≡ true → has_dpc s d ≡ true
 named_dpc s d x n from h k =
     let same : x.0 ≡ d.0 = eqb-true x.0 d.0 (both (x.0 == d.0) (from == n) k).0 in
@@ -32,6 +33,7 @@ delivered_declared s (DpcThing d) n (Begin (Threaded x) from) h k = named_dpc s 
 delivered_declared s (DpcThing d) n w h k = cc
 delivered_declared s (ApcThing a) n w h k = refl
 
+-- in a run of a script that fits, the laws over inserts hold of every object that an event names
 pub holds_of_every_object : (s : Script) (limit : ℕ) (e : Event) (past : List Event) → fits s ≡ true → IsRun s limit (e ∷ past) → HoldsOfEveryObject s e past
 holds_of_every_object s limit e past h r =
     record {

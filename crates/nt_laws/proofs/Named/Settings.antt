@@ -31,14 +31,17 @@ use Rattle.nt_event.specs.Fitting.{key_fits}
 abbrev SetBelow : ℕ → Option Setting → Type 0
 SetBelow n o = IfSome o (λ x. x.number < n)
 
+-- a setting numbered below a number is numbered below the next one
 below_next : (n : ℕ) (o : Option Setting) → SetBelow n o → SetBelow (suc n) o
 below_next n None h = tt
 below_next n (Some x) h = omega (arith, h)
 
+-- a choice between two settings numbered below a number is numbered below it
 either : (n : ℕ) (b : Bool) (x y : Option Setting) → SetBelow n x → SetBelow n y → SetBelow n (if b then x else y)
 either n true x y h k = h
 either n false x y h k = k
 
+-- a setting that is renewed at an event is numbered below the next event
 renewed_below : (n now : ℕ) (o : Option Setting) → SetBelow (suc n) (renewed n now o)
 renewed_below n now None = tt
 renewed_below n now (Some x) = go (x.period == 0)
@@ -47,6 +50,7 @@ renewed_below n now (Some x) = go (x.period == 0)
     go true = tt
     go false = omega arith
 
+-- what an event leaves of a timer's setting is numbered below the next event
 timer_step : (t : TimerNo) (n now : ℕ) (w : What) (old : Option Setting) → SetBelow n old → SetBelow (suc n) (timer_after t n now w old)
 timer_step t n now (Call f (SetTimer x due period) y) old h =
     either (suc n) (is_answer y && (x.0 == t.0)) (Some (record { due = now + due; number = n; period = period })) old (omega arith) (below_next n old h)
@@ -55,24 +59,29 @@ timer_step t n now (Expire (OfTimer x) from) old h =
     either (suc n) (x.0 == t.0) (renewed n now old) old (renewed_below n now old) (below_next n old h)
 timer_step t n now w old h = below_next n old h
 
+-- a timer's setting is numbered below the length of the history
 timer_below : (t : TimerNo) (past : List Event) → SetBelow (length past) (timer_setting t past)
 timer_below t [] = tt
 timer_below t (e ∷ past) =
     timer_step t (length past) (time past) e.what (timer_setting t past) (timer_below t past)
 
+-- a delay set at an event, or none, is numbered below the next event
 delay_set_below : (n : ℕ) (due : Option ℕ) (old : Option Setting) → SetBelow n old → SetBelow (suc n) (delay_set n due old)
 delay_set_below n None old h = below_next n old h
 delay_set_below n (Some due) old h = omega arith
 
+-- what a blocking wait leaves of a delay's setting is numbered below the next event
 blocked_step : (n now : ℕ) (again : Option Again) (w : What) (old : Option Setting) → SetBelow n old → SetBelow (suc n) (blocked_after n now again w old)
 blocked_step n now again (Call f (Delay m a units) Blocked) old h = delay_set_below n (Some (now + units)) old h
 blocked_step n now again (Rewait f Blocked) old h = delay_set_below n (option_and_then (λ w. w.due) again) old h
 blocked_step n now again w old h = below_next n old h
 
+-- what an expiry leaves of a delay's setting is numbered below the bound of the old one
 expired_step : (n : ℕ) (t : ThreadNo) (w : What) (old : Option Setting) → SetBelow n old → SetBelow n (expired_delay t w old)
 expired_step n t (Expire (OfDelay u) from) old h = either n (u.0 == t.0) None old tt h
 expired_step n t w old h = h
 
+-- a delay's setting is numbered below the length of the history
 delay_below : (s : Script) (t : ThreadNo) (past : List Event) → SetBelow (length past) (delay_setting s t past)
 delay_below s t [] = tt
 delay_below s t (e ∷ past) =
@@ -102,6 +111,7 @@ in_table size n i f x h e = go (nat_lt i size) refl
         none : ◌≡◌ {A = Option Setting} None (Some x) → ⊥
         none k = cc
 
+-- a timer key that is set is one of the script, and was set by an earlier event
 key_set : (s : Script) (key : TimerKey) (x : Setting) (past : List Event) → setting_at key (timers_at s past) ≡ Some x → (key_fits s key ≡ true) ×
     (x.number < length past)
 key_set s (OfTimer t) x past e =

@@ -63,30 +63,35 @@ SameOn s l m (x ∷ xs) = (content s l x ≡ content s m x) × SameOn s l m xs
 
 -- ---- what a lane's state tells
 
+-- equal states of an object's lane give equal objects
 pub object_same : (s : Script) (la lb : Lanes) (d : DpcNo) → content s la (ObjectLane d) ≡ content s lb (ObjectLane d) → object_at la d ≡ object_at lb d
 object_same s la lb d e = same _ _ e
   where
     same : (a b : ObjectState) → OfObject a ≡ OfObject b → a ≡ b
     same a b q = cc
 
+-- equal states of a queue's lane give equal queues
 pub queue_same : (s : Script) (la lb : Lanes) (p : CpuNo) → content s la (QueueLane p) ≡ content s lb (QueueLane p) → queue_at la p ≡ queue_at lb p
 queue_same s la lb p e = same _ _ e
   where
     same : (a b : QueueState) → OfQueue a ≡ OfQueue b → a ≡ b
     same a b q = cc
 
+-- equal states of the timers' lane give equal timers
 pub timers_same : (s : Script) (la lb : Lanes) → content s la TimersLane ≡ content s lb TimersLane → la.timers ≡ lb.timers
 timers_same s la lb e = same _ _ e
   where
     same : (a b : Timers) → OfTimers a ≡ OfTimers b → a ≡ b
     same a b q = cc
 
+-- equal states of a lock's lane give equal locks
 pub lock_same : (s : Script) (la lb : Lanes) (k : LockNo) → content s la (LockLane k) ≡ content s lb (LockLane k) → lock_at la k ≡ lock_at lb k
 lock_same s la lb k e = same _ _ e
   where
     same : (a b : LockState) → OfLock a ≡ OfLock b → a ≡ b
     same a b q = cc
 
+-- where the facts of a processor's threads are equal, those of each of its threads are
 threads_at : (s : Script) (p : CpuNo) (n i : ℕ) (xs : List ThreadDecl) (x : ThreadDecl) (l m : Lanes) → threads_from p n xs l ≡ threads_from p n xs m →
     slice_get xs i ≡ Some x → x.cpu.0 ≡ p.0 → facts_at l (thread (n + i)) ≡ facts_at m (thread (n + i))
 threads_at s p n i [] x l m e g c = cc
@@ -111,6 +116,7 @@ threads_at s p n (suc i) (y ∷ ys) x l m e g c =
         tails q = cc
     rest false q = q
 
+-- equal states of a processor's lane of threads give equal facts of its threads
 threads_lane : (s : Script) (la lb : Lanes) (p : CpuNo) → content s la (ThreadsLane p) ≡ content s lb (ThreadsLane p) → threads_from p 0 s.threads la
     ≡ threads_from p 0 s.threads lb
 threads_lane s la lb p e = same _ _ e
@@ -118,6 +124,7 @@ threads_lane s la lb p e = same _ _ e
     same : (a b : List ThreadFacts) → OfThreads a ≡ OfThreads b → a ≡ b
     same a b q = cc
 
+-- reading a list at or after its end gives the default
 past_end : {A : Type 0} (xs : List A) (i : ℕ) (d : A) → length xs ≤ i → get_or xs i d ≡ d
 past_end [] i d h = refl
 past_end (x ∷ xs) zero d h = absurd (omega arith)
@@ -144,19 +151,23 @@ abbrev pub is_pick : Job → Bool
 is_pick (PickJob last) = true
 is_pick j = false
 
+-- false isn't true, so anything follows (for replies)
 no_bool : {A : Type 0} → false ≡ true → A
 no_bool h = cc
 
 -- ---- the replies
 
+-- an answer of yes or no is no refusal
 not_refused_if : (b : Bool) → is_refused (yes_if b) ≡ false
 not_refused_if true = refl
 not_refused_if false = refl
 
+-- a lock's answer of done or spin is no refusal
 not_refused_spin : (b : Bool) → is_refused (if b then Done else Spin) ≡ false
 not_refused_spin true = refl
 not_refused_spin false = refl
 
+-- the reply to a wait is no refusal
 wait_accepted : (x : ThreadFacts) (r : Regions) (level : ℕ) (m : Mode) (a : Bool) (o : Option Bool) → is_refused (wait_reply x r level m a o) ≡ false
 wait_accepted x r level m a o =
     ifs (is_some (deliverable x.apcs r level)) (is_satisfied x o) (a && is_alerted m x) (a && (is_user m && has_user x.apcs)) (a && x.alerted_kernel)
@@ -176,6 +187,7 @@ wait_accepted x r level m a o =
 -- where two histories have the same states on the lanes of a command, the reply is the same
 module _ (s : Script) (la lb : Lanes) (wa : length la.threads ≡ length s.threads) (wb : length lb.threads ≡ length s.threads) (st : Stand)
     (run : (t : ThreadNo) → st.thread ≡ Some t → (cpu_of s t).0 ≡ st.cpu.0) where
+  -- equal states of the processor's lane of threads give equal facts of its running thread
   pub own_facts : content s la (ThreadsLane st.cpu) ≡ content s lb (ThreadsLane st.cpu) → facts_of la st.thread ≡ facts_of lb st.thread
   own_facts e = go st.thread refl
     where

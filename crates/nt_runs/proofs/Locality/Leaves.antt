@@ -65,6 +65,7 @@ module _ (s : Script) (la lb : Lanes) (wa : length la.threads ≡ length s.threa
   if_lanes true c y q = refl
   if_lanes false c y q = commands_same c y q
 
+  -- an event touches the same lanes in two states that agree on the lanes it touches
   pub lanes_same : (w : What) → SameOn s la lb (what_lanes s st w la) → what_lanes s st w la ≡ what_lanes s st w lb
   lanes_same (Call f c y) q = if_lanes (is_refused y) c y q
   lanes_same (Fire d y) q = insert_same st.cpu d y q
@@ -83,6 +84,7 @@ module _ (s : Script) (la lb : Lanes) (wa : length la.threads ≡ length s.threa
       ap (λ (x : ThreadFacts). ask_if (some_came_to_0 st.regions st.below || has_kernel x.apcs) st.cpu 1) (own_facts s la lb wa wb st run q.0)
   end_asks_same b q = refl
 
+  -- an event asks for the same in two states that agree on the lanes it touches
   pub asks_same : (w : What) → ((t : ThreadNo) (status : Option ℕ) → w ≡ Switch t status → (cpu_of s t).0 ≡ st.cpu.0) → SameOn s la lb (what_lanes s st w la) →
       what_asks s st w la ≡ what_asks s st w lb
   asks_same (Call f (Queue d) Yes) own q = queue_asks_same d q
@@ -151,6 +153,7 @@ module _ (s : Script) (la lb : Lanes) (wa : length la.threads ≡ length s.threa
       read_same s.locks k.0 (λ k. lock_after s (lock k) e (lock_at la (lock k))) (λ k. lock_after s (lock k) e (lock_at lb (lock k))) start_lock
       (λ l. ap (lock_after s k e) a)
 
+  -- where a lane's states are equal before an event, they are equal after it
   pub content_left : (x : Lane) → content s la x ≡ content s lb x → content s (lanes_after s n st e la) x ≡ content s (lanes_after s n st e lb) x
   content_left (ObjectLane d) a = ap (λ (o : ObjectState). OfObject o) (object_left d (object_same s la lb d a))
   content_left (QueueLane p) a = ap (λ (o : QueueState). OfQueue o) (queue_left p (queue_same s la lb p a))
@@ -167,12 +170,14 @@ abbrev pub delays : What → Bool
 delays (Call f (Delay m a units) y) = not (is_refused y)
 delays w = false
 
+-- the due time matters to the own part only at an event that is an accepted delay
 own_due : (n a b : ℕ) (w : What) (fs : List Frame) → (delays w ≡ true → a ≡ b) → own_after n (due_of w a) w fs ≡ own_after n (due_of w b) w fs
 own_due n a b (Call f (Delay m al u) (Refused r)) fs h = refl
 own_due n a b (Call f (Delay m al u) y) fs h =
     ap (λ (t : ℕ). own_after n (Some (t + u)) (Call f (Delay m al u) y) fs) (h refl)
 own_due n a b w fs h = refl
 
+-- the due time matters to a thread's frames only at an event that is an accepted delay
 thread_due : (s : Script) (n a b : ℕ) (w : What) (by : Bool) (fs : List Frame) → (delays w ≡ true → a ≡ b) → thread_if by s n (due_of w a) w fs
     ≡ thread_if by s n (due_of w b) w fs
 thread_due s n a b w false fs h = refl
@@ -181,6 +186,7 @@ thread_due s n a b (Call f (Delay m al u) y) true fs h =
     ap (λ (t : ℕ). thread_after s n (Some (t + u)) (Call f (Delay m al u) y) fs) (h refl)
 thread_due s n a b w true fs h = refl
 
+-- the due time matters to all frames only at an event that is an accepted delay
 frames_due : (s : Script) (n a b : ℕ) (e : Event) (x : Frames) → (delays e.what ≡ true → a ≡ b) → frames_after s n (due_of e.what a) e x
     ≡ frames_after s n (due_of e.what b) e x
 frames_due s n a b e x h =

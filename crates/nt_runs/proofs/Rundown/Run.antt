@@ -60,6 +60,7 @@ use Rattle.nt_runs.proofs.Untouched.{past_table}
 
 -- ---- the first kernel APC is of a kernel kind
 
+-- a pending APC found from the end has the kind that the script gives
 find_fits : (s : Script) (test : Pick → Bool) (xs : List Pick) → KindsFit s xs → Holds (λ x. x.kind ≡ kind_of s x.apc) (find test (reverse xs))
 find_fits s test [] h = tt
 find_fits s test (x ∷ xs) h =
@@ -70,16 +71,19 @@ find_fits s test (x ∷ xs) h =
     one true = h.0
     one false = tt
 
+-- a special APC is a kernel one
 special_kernel : (k : ApcKind) → same_kind SpecialApc k ≡ true → is_kernel_kind k ≡ true
 special_kernel SpecialApc h = refl
 special_kernel NormalApc h = refl
 special_kernel UserApc h = cc
 
+-- a normal APC is a kernel one
 normal_kernel : (k : ApcKind) → same_kind NormalApc k ≡ true → is_kernel_kind k ≡ true
 normal_kernel SpecialApc h = refl
 normal_kernel NormalApc h = refl
 normal_kernel UserApc h = cc
 
+-- an APC of the kind of user APCs is a user APC
 user_kind : (k : ApcKind) → same_kind UserApc k ≡ true → k ≡ UserApc
 user_kind SpecialApc h = cc
 user_kind NormalApc h = cc
@@ -88,6 +92,7 @@ user_kind UserApc h = refl
 abbrev pub KernelPick : Script → Pick → Type 0
 KernelPick s x = (is_kernel_kind x.kind ≡ true) × (x.kind ≡ kind_of s x.apc)
 
+-- the first pending APC of a kernel kind is a kernel one of the script's kind
 kernel_of : (s : Script) (kind : ApcKind) (q : ApcQueues) → ((k : ApcKind) → same_kind kind k ≡ true → is_kernel_kind k ≡ true) → KindsFit s q.pending →
     Holds (KernelPick s) (first_of_kind kind q)
 kernel_of s kind q h f =
@@ -98,17 +103,20 @@ kernel_of s kind q h f =
     both_hold None a b = tt
     both_hold (Some x) a b = (h x.kind a, b)
 
+-- the first kernel APC found in the queues is of a kernel kind, the one that the script gives its object
 pub first_kernel_fits : (s : Script) (q : ApcQueues) → KindsFit s q.pending → Holds (KernelPick s) (first_kernel q)
 first_kernel_fits s q f =
     holds_or (KernelPick s) (first_of_kind SpecialApc q) (first_of_kind NormalApc q) (kernel_of s SpecialApc q special_kernel f)
     (λ e. kernel_of s NormalApc q normal_kernel f)
 
+-- a kernel APC that is deliverable is of a kernel kind, the one that the script gives its object
 pub deliverable_fits : (s : Script) (q : ApcQueues) (r : Regions) (level : ℕ) → KindsFit s q.pending → Holds (KernelPick s) (deliverable q r level)
 deliverable_fits s q r level f =
     holds_then (KernelPick s) (λ x. when ((level == 0) && lets_through r x.kind) (Some x)) (first_kernel q)
     (λ x e. holds_when (KernelPick s) ((level == 0) && lets_through r x.kind) (Some x)
     (λ h. holds_at (KernelPick s) (first_kernel q) x (first_kernel_fits s q f) e))
 
+-- the first user APC found in the queues is of the user kind, the one that the script gives its object
 pub first_user_fits : (s : Script) (q : ApcQueues) → KindsFit s q.pending → Holds (λ x. (x.kind ≡ UserApc) × (x.kind ≡ kind_of s x.apc)) (first_user q)
 first_user_fits s q f =
     both_hold (first_user q) (holds_find (λ x. is_of_kind UserApc x ≡ true) (is_of_kind UserApc) (reverse q.pending) (λ x e. e))
@@ -119,6 +127,7 @@ first_user_fits s q f =
     both_hold None a b = tt
     both_hold (Some x) a b = (user_kind x.kind a, b)
 
+-- each pending APC of a thread as the lanes hold it has the kind of its object
 pub facts_fit : (s : Script) (past : List Event) (t : ThreadNo) → KindsFit s (facts_at (lanes_at s past) t).apcs.pending
 facts_fit s past t = go (nat_lt t.0 (length s.threads)) refl
   where
@@ -135,6 +144,7 @@ facts_fit s past t = go (nat_lt t.0 (length s.threads)) refl
         (ltb-false t.0 (length s.threads) e) in
         subst (λ (x : ThreadFacts). KindsFit s x.apcs.pending) (sym k) tt
 
+-- each pending APC of the thread that is given, if one is, has the kind of its object
 pub facts_fit_of : (s : Script) (past : List Event) (o : Option ThreadNo) → KindsFit s (facts_of (lanes_at s past) o).apcs.pending
 facts_fit_of s past None = tt
 facts_fit_of s past (Some t) = facts_fit s past t
@@ -143,20 +153,25 @@ facts_fit_of s past (Some t) = facts_fit s past t
 
 module _ (s : Script) (limit : ℕ) (t : ThreadNo) (e : Event) (past : List Event) (has : has_thread s t ≡ true) (b : is_by e t ≡ true)
     (g : IsLegal s limit e past) (r : IsRun s limit past) where
+  -- an event that the thread makes is of its own processor
   pub own : is_of e (cpu_of s t) ≡ true
   own = eq-eqb e.cpu.0 (cpu_of s t).0 (named_here s limit t e past g r b)
 
+  -- the processor of an event that the thread makes is the thread's
   pub here : e.cpu ≡ cpu_of s t
   here = same_cpu e (cpu_of s t) own
 
+  -- an event that the thread makes is one of that thread's own
   pub of : is_of_thread s t e ≡ true
   of = rw (own, b) refl
 
+  -- the thread's facts after an event that it makes are what it did to itself as its maker and then as a target
   pub after : facts s t (e ∷ past) ≡ named_facts s t (length past) e.what (made_facts s (length past) (stand_at s (cpu_of s t) past) e.what (facts s t past))
   after =
       facts_made s t e past true of ∙ ap (λ (q : CpuNo). named_facts s t (length past) e.what
       (made_facts s (length past) (stand_at s q past) e.what (facts s t past))) here
 
+  -- the thread's frames after an event that it makes are what the event leaves of them
   pub frames : (w : What) → e.what ≡ w → thread_frames s (cpu_of s t) t (e ∷ past)
       ≡ thread_after s (length past) (due_of e.what (time past)) w (thread_frames s (cpu_of s t) t past)
   frames w k =
@@ -213,6 +228,7 @@ module _ (s : Script) (limit : ℕ) (t : ThreadNo) (e : Event) (past : List Even
 
   -- ---- a Switch
 
+  -- what holds of a leaving thread still holds after a switch
   pub switched : (u : ThreadNo) (st : Option ℕ) → e.what ≡ Switch u st → (facts s t past).leaving ≡ true → Leaves s t past → Leaves s t (e ∷ past)
   switched u st k l ih =
       together l (Switch u st) k (switched_runs is_user_apc_body (length past) u st (thread_frames s (cpu_of s t) t past) refl ∙ ih.serving)

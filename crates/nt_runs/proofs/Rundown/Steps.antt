@@ -58,6 +58,7 @@ pub record Stands (s : Script) (limit : ℕ) (t : ThreadNo) (past : List Event) 
   pub part : thread_part (frames_of s (cpu_of s t) past) ≡ thread_frames s (cpu_of s t) t past
   pub based : HasBase t (thread_frames s (cpu_of s t) t past)
 
+-- a thread that runs stands on its processor with its own frames, over its base frame
 pub stands : (s : Script) (limit : ℕ) (t : ThreadNo) (past : List Event) → IsRun s limit past → running (cpu_of s t) past ≡ Some t → Stands s limit t past
 stands s limit t past r run =
     let h = running_here s limit (cpu_of s t) t past r run in
@@ -69,18 +70,22 @@ pub first_frame : (s : Script) (limit : ℕ) (t : ThreadNo) (past : List Event) 
 first_frame s limit t past f z h n =
     ap (λ (fs : List Frame). head_of fs) (sym z.part) ∙ part_head (frames_of s (cpu_of s t) past) f h n
 
+-- the facts that the lanes hold for a declared thread are the facts of the history
 pub facts_there : (s : Script) (limit : ℕ) (t : ThreadNo) (past : List Event) → has_thread s t ≡ true → facts_at (lanes_at s past) t ≡ facts s t past
 facts_there s limit t past h =
     get_or-table (length s.threads) t.0 (λ k. facts s (thread k) past) start_facts (ltb-true t.0 (length s.threads) h)
 
+-- the facts of a processor's running thread in the lanes are the thread's facts in the history
 pub facts_running : (s : Script) (limit : ℕ) (t : ThreadNo) (past : List Event) → Stands s limit t past →
     facts_of (lanes_at s past) (running (cpu_of s t) past) ≡ facts s t past
 facts_running s limit t past z =
     ap (λ (o : Option ThreadNo). option_map_or (facts_at (lanes_at s past)) o start_facts) z.run ∙ facts_there s limit t past z.has
 
+-- the level of frames is the level of the first one
 level_first : (f : Frame) (fs : List Frame) → head_of fs ≡ Some f → level_of fs ≡ f.level
 level_first f fs h = ap (λ (o : Option Frame). option_map_or (λ f. f.level) o 0) h
 
+-- where the body of the first frame passes a test, a frame of this kind is open
 runs_first : (test : Body → Bool) (f : Frame) (fs : List Frame) → head_of fs ≡ Some f → test f.body ≡ true → Runs test fs ≡ true
 runs_first test f [] h k = cc
 runs_first test f (g ∷ fs) h k =
@@ -97,12 +102,14 @@ base_alone t f (g ∷ (x ∷ fs)) h k b =
     let y : is_base_body g.body ≡ true = ap (λ (z : Frame). is_base_body z.body) same ∙ k in
     absurd (both_ways (is_base_body g.body) b.0.0 y)
 
+-- what holds of each frame holds of the first one
 each_first : (P : Frame → Type 0) (f : Frame) (fs : List Frame) → head_of fs ≡ Some f → Each P fs → P f
 each_first P f [] h e = cc
 each_first P f (g ∷ fs) h e = let same : g ≡ f = cc in subst P same e.0
 
 -- ---- a leaving thread's base at PASSIVE_LEVEL: what is pending is deliverable
 
+-- the base frame alone, in no region, gives no regions and no normal APC in progress
 no_regions : (f : Frame) → f.body ≡ f.body → is_base_body f.body ≡ true → f.crit ≡ 0 → f.guard ≡ 0 → regions_of (f ∷ [])
     ≡ record { crit = 0; guard = 0; busy = false }
 no_regions f e b c g = λ i. record { crit = sums f.crit c i; guard = sums f.guard g i; busy = busy f.body b i }
@@ -118,6 +125,7 @@ no_regions f e b c g = λ i. record { crit = sums f.crit c i; guard = sums f.gua
     busy (OnThreaded d) h = refl
     busy (OnRundown a) h = refl
 
+-- outside all regions each kind of APC is let through
 let_through : (k : ApcKind) → lets_through (record { crit = 0; guard = 0; busy = false }) k ≡ true
 let_through SpecialApc = refl
 let_through NormalApc = refl

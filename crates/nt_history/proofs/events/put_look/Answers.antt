@@ -4,6 +4,7 @@ use Rattle.nt_history.proofs.Lists.{look_put}
 use Rattle.nt_history.proofs.events.put_look.Goals as goal
 use Rattle.nt_history.proofs.events.put_look.Goals.{After-put_brief}
 
+-- after a look is put with its values beside it, the events are the old ones and this look at the end
 is_put : (c : After-put_brief) →
     HasEach c.put_brief.new.briefs.items c.put_beside.new.rises.items
     × (events_in c.put_brief.new.briefs.items c.put_beside.new.rises.items

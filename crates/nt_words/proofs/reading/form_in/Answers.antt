@@ -7,12 +7,15 @@ use Rattle.nt_words.specs.Commands.{command_named}
 use Rattle.nt_words.specs.Chosen.{chosen, form_from}
 use Rattle.nt_words.proofs.reading.form_in.Goals as goal
 
+-- without a command word no form is chosen
 no_word : (rows : List Row) → first_of (codes "command") rows ≡ None → chosen rows ≡ None
 no_word rows none = rw none refl
 
+-- with a word that names no command no form is chosen
 no_command : (rows : List Row) (w : List ℕ) → first_of (codes "command") rows ≡ Some w → command_named w ≡ None → chosen rows ≡ None
 no_command rows w is none = rw is (rw none refl)
 
+-- with a word that names a command, that command's form is chosen with the options given
 a_command : (rows : List Row) (w : List ℕ) (c : Command) → first_of (codes "command") rows ≡ Some w → command_named w ≡ Some c
     → chosen rows ≡ form_from c (first_of (codes "turns") rows) (first_of (codes "seed") rows) (first_of (codes "goal") rows) (first_of (codes "workers") rows)
 a_command rows w c is named = rw is (rw named refl)

@@ -5,6 +5,7 @@ use Rattle.nt_history.proofs.Lists.{bare_put}
 use Rattle.nt_history.proofs.events.Events.push_brief.Goals as goal
 use Rattle.nt_history.proofs.events.Events.push_brief.Goals.{After-put}
 
+-- after a brief without values is put, the events are the old ones and its event at the end
 is_put : (c : After-put) →
     HasEach c.put.new.items.items c.self.inside.rises.items
     × (events_in c.put.new.items.items c.self.inside.rises.items

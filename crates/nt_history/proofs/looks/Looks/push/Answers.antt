@@ -6,6 +6,7 @@ use Rattle.nt_history.proofs.TurnValues.{look_put}
 use Rattle.nt_history.proofs.looks.Looks.push.Goals as goal
 use Rattle.nt_history.proofs.looks.Looks.push.Goals.{After-push_reserved}
 
+-- after a look's values are put, the values in order are the old ones and these at the end
 put : (c : After-push_reserved) →
     AreAmong c.push_reserved.new.self.items c.put_beside.new.several.items
     × (rises_in c.push_reserved.new.self.items c.put_beside.new.several.items

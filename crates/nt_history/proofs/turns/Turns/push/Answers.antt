@@ -5,6 +5,7 @@ use Rattle.nt_history.proofs.TurnLists.{one_put}
 use Rattle.nt_history.proofs.turns.Turns.push.Goals as goal
 use Rattle.nt_history.proofs.turns.Turns.push.Goals.{After-push_reserved}
 
+-- after a turn is put, the turns in order are the old ones and this one at the end
 put : (c : After-push_reserved) →
     HasEach c.push_reserved.new.self.items c.put_rises.new.looks
     × (turns_in c.push_reserved.new.self.items c.put_rises.new.looks

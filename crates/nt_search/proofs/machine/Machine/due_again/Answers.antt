@@ -8,6 +8,7 @@ use Rattle.nt_cpu.specs.States.{CpuState}
 use Rattle.nt_search.proofs.Machines.{cpu_own, cpu_within}
 use Rattle.nt_search.proofs.machine.Machine.due_again.Goals as goal
 
+-- when the wait that a processor would begin again is due, if it has one
 due_in : CpuNo → Own → Option ℕ
 due_in p x = option_and_then (λ w. w.due) (stand_of p x.frames x.sweep).again
 
