@@ -1,19 +1,12 @@
 //! What no clause says: that nothing else stands in the list. The turns are worked out by hand.
-ghost use Rattle.std.specs.Prelude.{OnOk};
-ghost use Rattle.nt_shade_asks.specs.Follows.{IsOf};
+ghost use Rattle.std.specs.Prelude.{◌≡◌, ◌+◌, ◌*◌, ◌<◌, IfOk, IsTrue};
+ghost use Rattle.nt_event.specs.Script.{fits};
+ghost use Rattle.nt_shade_asks.specs.Follows.{HasRoom, IsOf, place_of};
 
 use crate::turns_ahead;
-use nt_event::{Asked, CpuNo, Event, Items, Level, Rises, Script, Turn, What, class};
-use nt_shade_asks::Unnoticed;
+use nt_event::{CpuNo, Items, Rises, Script, Turn, class};
+use nt_shade_asks::{ClassAsks, Unnoticed};
 use std::alloc::{AllocError, Global};
-
-/// An event of processor 0, which stands for each that asks here.
-const EVENT: Event = Event {
-    cpu: CpuNo(0),
-    thread: None,
-    level: Level::PASSIVE,
-    what: What::Rest,
-};
 
 /// Two processors, and nothing else.
 fn script(alloc: Global) -> Script {
@@ -31,23 +24,49 @@ fn script(alloc: Global) -> Script {
     }
 }
 
-/// Event 0 and event 1 ask processor 1 for interrupts among processors, event 2 for the clock.
-fn ask(asks: &mut Unnoticed, script: &Script) -> Result<(), AllocError>
-    requires { IsOf script.now asks.old }
-    ensures { OnOk result (IsOf script.now asks.new) }
+/// The values by which the processor was asked for the class and which it has not noticed. Event 0
+/// and event 1 asked processor 1 for interrupts among processors, event 2 for the clock.
+fn values(alloc: Global, cpu: u8, class: u8) -> Result<Vec<u64>, AllocError> {
+    if cpu == 1 && class == class::IPI {
+        Ok(vec![in alloc; 1, 2]?)
+    } else if cpu == 1 && class == class::CLOCK {
+        Ok(vec![in alloc; 3]?)
+    } else {
+        Ok(Vec::new(alloc))
+    }
+}
+
+/// What the processor was asked for of the class; no lane tells anything.
+fn class_of(alloc: Global, script: &Script, cpu: u8, class: u8) -> Result<ClassAsks, AllocError>
+    requires fits { IsTrue (fits script.now) }
+    requires class { class < 16 }
+    ensures place { IfOk result (λ x. place_of x ≡ cpu * 16 + class) }
+    ensures room { IfOk result (HasRoom script.now) }
 {
-    let ipi = Asked {
-        cpu: CpuNo(1),
-        class: class::IPI,
-    };
-    let clock = Asked {
-        cpu: CpuNo(1),
-        class: class::CLOCK,
-    };
-    asks.follow(script, 0, &EVENT, &[ipi], &[])?;
-    asks.follow(script, 1, &EVENT, &[ipi], &[])?;
-    asks.follow(script, 2, &EVENT, &[clock], &[])?;
-    Ok(())
+    let ahead = values(alloc, cpu, class)?;
+    let told = vec![in alloc; 0u64; script.lane_count()]?;
+    Ok(ClassAsks {
+        cpu: CpuNo(cpu),
+        class,
+        seen: 0,
+        served: 0,
+        ahead,
+        told,
+    })
+}
+
+/// What all processors were asked for.
+fn asks(alloc: Global, script: &Script) -> Result<Unnoticed, AllocError>
+    requires { IsTrue (fits script.now) }
+    ensures { IfOk result (IsOf script.now) }
+{
+    let mut classes = Vec::new(alloc);
+    for cpu in 0..script.cpus {
+        for class in 0..16u8 {
+            classes.push(class_of(alloc, script, cpu, class)?)?;
+        }
+    }
+    Ok(Unnoticed { classes })
 }
 
 /// The look of processor 1 that finds these values of the clock and of interrupts among processors.
@@ -63,8 +82,7 @@ fn each_choice_is_tried_once(rt: HostRuntime) -> Result<(), AllocError> {
     let alloc = rt.alloc();
     let script = script(alloc);
     assert!(rt; script.fits());
-    let mut asks = Unnoticed::new(alloc, &script)?;
-    ask(&mut asks, &script)?;
+    let asks = asks(alloc, &script)?;
     let turns = turns_ahead(alloc, &script, &asks)?;
     let wanted = [
         Turn::Next(CpuNo(0)),

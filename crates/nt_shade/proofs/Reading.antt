@@ -71,13 +71,13 @@ module _ (s : Script) (past : List Event) (f : PlainState) (follows : Follows s 
         seen = seen_is;
         served = served_is;
         ahead = ahead_is;
-        told = λ x has. ap (λ (xs : List ℕ). get_or xs (lane_number s x) 0) read.told ∙ told_are x has;
+        told = λ some x has. ap (λ (xs : List ℕ). get_or xs (lane_number s x) 0) (read.told some) ∙ told_are x has;
       })
 
   -- and has its room
   pub row_room : (row : ClassAsks) → c < 16 → IsRead (own_of s p past) f p c row → HasRoom s row
   row_room row low read = record {
     class = rw read.class low;
-    told = ap length read.told ∙ length-table_from 0 (lane_count f.script) (λ n. told_at f.script.cpus f.told n p c)
+    told = λ some. ap length (read.told some) ∙ length-table_from 0 (lane_count f.script) (λ n. told_at f.script.cpus f.told n p c)
         ∙ ap lane_count same;
   }

@@ -1,18 +1,17 @@
 -- Rows that were read of the classes of processors, one after another.
 use Rattle.std.proofs.Common.{ap, arith, subst, sym, ◌∙◌}
 use Rattle.std.proofs.lemmas.Grind.{common_steps}
-use Rattle.std.proofs.lemmas.List.{get_or_default, map_push}
+use Rattle.std.proofs.lemmas.List.{get_or_default}
 use Rattle.std.proofs.lemmas.List.Elements.{All-nil, All-push}
 use Rattle.std.specs.Prelude.{All, IsTrue, List, [], get_or, length, map, ℕ, ◌*◌, ◌++◌, ◌+◌, ◌<◌, ◌∷◌, ◌≡◌, ◌≤◌}
 use Rattle.nt_event.specs.declared.events.Event.{Event}
 use Rattle.nt_event.specs.declared.numbers.CpuNo.{CpuNo}
 use Rattle.nt_event.specs.declared.scripts.Script.{Script}
-use Rattle.nt_event.specs.Lanes.{lane_count}
 use Rattle.nt_event.specs.Lists.{table}
 use Rattle.nt_event.specs.Numbers.{cpu}
 use Rattle.nt_event.specs.Own.{own_of}
 use Rattle.nt_event.specs.Script.{fits}
-use Rattle.nt_event.proofs.Tables.{get_or-table, length-table_from, table_more, table_none}
+use Rattle.nt_event.proofs.Tables.{get_or-table, length-table_from}
 use Rattle.nt_floor.specs.Views.{HasWord}
 use Rattle.nt_plain.specs.States.{PlainState, view_of}
 use Rattle.nt_cpu.specs.Runs.{state_of}
@@ -22,6 +21,7 @@ use Rattle.nt_cpus.specs.States.{CpusState}
 use Rattle.nt_shade_asks.specs.declared.class_asks.ClassAsks.{ClassAsks}
 use Rattle.nt_shade_asks.specs.declared.unnoticed.Unnoticed.{Unnoticed}
 use Rattle.nt_shade_asks.specs.Follows.{IsClassAsked, IsOf, place_of}
+use Rattle.nt_shade_asks.proofs.Placed.{none_placed, one_placed}
 use Rattle.nt_shade.specs.Asks.{IsRead}
 use Rattle.nt_shade.proofs.Reading.{row_asked, row_room}
 
@@ -51,20 +51,15 @@ pub record AreRows (cpus : List CpuState) (f : PlainState) (n : ℕ) (rows : Lis
 
 -- an empty list has the first zero rows of the processors
 pub no_rows : (cpus : List CpuState) (f : PlainState) (rows : List ClassAsks) → rows ≡ [] → AreRows cpus f 0 rows
-no_rows cpus f rows e = rw e (record { places = sym (table_none (λ k. k)); read = All-nil (IsReadOf cpus f) })
+no_rows cpus f rows e = record { places = none_placed rows e; read = rw e (All-nil (IsReadOf cpus f)) }
 
 -- and the next one
 pub row_on : (cpus : List CpuState) (f : PlainState) (n m : ℕ) (rows new : List ClassAsks) (x : ClassAsks) → AreRows cpus f n rows → new ≡ rows ++ x ∷ [] →
     place_of x ≡ n → n + 1 ≡ m → IsReadOf cpus f x → AreRows cpus f m new
 row_on cpus f n m rows new x h e p k r = rw (e, ← k) (record {
-  places = map_push place_of rows x ∙ ap (λ (ps : List ℕ). ps ++ place_of x ∷ []) h.places ∙ ap (λ (place : ℕ). table n (λ k. k) ++ place ∷ []) p
-      ∙ sym (table_more n (λ k. k));
+  places = one_placed n rows x h.places p;
   read = All-push (IsReadOf cpus f) rows x h.read r;
 })
-
--- a script that fits has few lanes
-few_lanes : (s : Script) → IsTrue (fits s) → lane_count s ≤ 1024
-few_lanes s h = grind (arith, common_steps)
 
 module _ (past : List Event) (c : CpusState) (f : PlainState) (after : AreAfter past c f.script (view_of f)) where
   -- there are as many processors as the script has
@@ -103,7 +98,6 @@ module _ (past : List Event) (c : CpusState) (f : PlainState) (after : AreAfter 
   -- the rows of all 16 classes of all processors, in order, are those the script needs, with room for each lane
   pub rows_of : (x : Unnoticed) → AreRows c.cpus f (length c.cpus * 16) x.classes.items → IsOf c.script x
   rows_of x are = record {
-    lanes = few_lanes c.script after.script;
     places = are.places ∙ ap (λ (n : ℕ). table (n * 16) (λ place. place)) cpu_count;
     room = λ k d l.
         let row = get_or x.classes.items k d in
@@ -121,3 +115,10 @@ number_fits past c f n after low =
     let count = cpu_count past c f after in
     let few = few_cpus c.script after.script in
     omega (arith, count, few, low)
+
+-- so there is room for the 16 classes of each
+pub room_fits : (past : List Event) (c : CpusState) (f : PlainState) → AreAfter past c f.script (view_of f) → length c.cpus * 16 ≤ 1024
+room_fits past c f after =
+    let count = cpu_count past c f after in
+    let few = few_cpus c.script after.script in
+    omega (arith, count, few)

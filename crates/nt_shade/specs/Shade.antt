@@ -33,7 +33,7 @@ pub record IsShadeOf (s : Script) (past : List Event) (x : Shade) : Type 0 where
   pub threads : map thread_said x.threads.items ≡ map bare_facts (lanes_at s past).threads
   pub cpus : map cpu_said x.cpus.items ≡ table s.cpus (λ p. kept_but_dues (own_of s (cpu p) past))
 
--- the processors and the floor stand after this past, and what followed its events is what the past says
+-- the processors and the floor stand after this past, and what is kept beside them is what the past says
 pub record StandAfter (past : List Event) (c : CpusState) (f : PlainState) (d : ShadeDpcs) (u : Unnoticed) :
     Type 0 where
   pub machine : AreAfter past c f.script (view_of f)

@@ -49,6 +49,24 @@ fn told_of(alloc: Global, floor: &PlainFloor, cpu: CpuNo, class: u8) -> Result<V
     Ok(told)
 }
 
+/// What each lane tells of the class of the processor, where any value is ahead; nothing else needs
+/// it.
+fn told_where(
+    alloc: Global,
+    floor: &PlainFloor,
+    cpu: CpuNo,
+    class: u8,
+    ahead: &[u64],
+) -> Result<Vec<u64>, AllocError>
+    requires { HasWord (view_of floor.now) cpu class }
+    ensures { IfOk result (λ v. 0 < length ahead.now → v.items ≡ all_told floor.now cpu class) }
+{
+    if ahead.is_empty() {
+        return Ok(Vec::new(alloc));
+    }
+    told_of(alloc, floor, cpu, class)
+}
+
 /// What is kept of a class of the processor of this number.
 fn class_of(
     alloc: Global,
@@ -62,13 +80,15 @@ fn class_of(
     ensures { IfOk result (IsRead cpu.now.own floor.now number class) }
 {
     let seen = cpu.seen().value[usize::from(class)];
+    let ahead = values_above(alloc, floor, number, class, seen)?;
+    let told = told_where(alloc, floor, number, class, ahead.as_slice())?;
     Ok(ClassAsks {
         cpu: number,
         class,
         seen,
         served: cpu.served().value[usize::from(class)],
-        ahead: values_above(alloc, floor, number, class, seen)?,
-        told: told_of(alloc, floor, number, class)?,
+        ahead,
+        told,
     })
 }
 
@@ -86,7 +106,7 @@ pub fn unnoticed_of(
         IsAsked processors.now.script past x) }
 {
     let cpus = processors.cpus();
-    let mut classes = Vec::new(alloc);
+    let mut classes = Vec::with_capacity(alloc, cpus.len() * class::COUNT)?;
     for number in 0..cpus.len() {
         for class in 0..class::COUNT {
             let cpu = CpuNo(number as u8);

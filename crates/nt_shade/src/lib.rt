@@ -2,9 +2,9 @@
 //!
 //! Whoever goes through all schedules of a script meets many histories that differ in numbers
 //! alone, and go on alike. A [`Shade`] is plain data that two such histories share, and that can be
-//! the key of a map. [`shade_of`] makes it of a machine that stands after the history, and of what
-//! followed the history's events beside it: `ShadeDpcs` of nt_shade_dpcs and `Unnoticed` of
-//! nt_shade_asks.
+//! the key of a map. [`shade_of`] makes it of a machine that stands after the history, of
+//! `ShadeDpcs` of nt_shade_dpcs, which followed the history's events beside it, and of `Unnoticed`
+//! of nt_shade_asks, which [`unnoticed_of`] reads of the machine.
 //!
 //! Contracts say what `IsShadeOf` says: the data are what the machine's definitions have of the
 //! history, with each number 0. Shades that are `==` say the same

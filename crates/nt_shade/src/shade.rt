@@ -27,17 +27,28 @@ pub struct Shade {
     pub cpus: Vec<ShadeCpu>,
 }
 
+/// The room to begin with for the counts: two of each class, and one of each lane that is told of.
+/// Where it is too little, the list grows.
+fn room_of(unnoticed: &Unnoticed) -> usize {
+    let mut room = 0usize;
+    for row in &unnoticed.classes {
+        room = room.saturating_add(2).saturating_add(row.told.len());
+    }
+    room
+}
+
 /// The counts of what was asked and not noticed.
 fn counts_of(alloc: Global, unnoticed: &Unnoticed) -> Result<Vec<u32>, AllocError>
     requires { AreFew unnoticed.now }
     ensures { IfOk result (λ v. v.items ≡ counts_of unnoticed.now) }
 {
-    let mut counts = Vec::new(alloc);
+    let mut counts = Vec::with_capacity(alloc, room_of(unnoticed))?;
     unnoticed.write_counts(&mut counts)?;
     Ok(counts)
 }
 
-/// The shade of the history after which the machine stands, and whose events these two followed.
+/// The shade of the history after which the machine stands. `dpcs` followed its events, and
+/// `unnoticed` is what it says of the asks.
 pub fn shade_of(
     alloc: Global,
     processors: &Processors,

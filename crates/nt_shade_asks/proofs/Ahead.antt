@@ -12,8 +12,7 @@ use Rattle.nt_shade_asks.specs.declared.class_asks.ClassAsks.{ClassAsks}
 use Rattle.nt_shade_asks.specs.declared.unnoticed.Unnoticed.{Unnoticed}
 use Rattle.nt_shade_asks.specs.Follows.{IsAsked, IsOf, place_of}
 use Rattle.nt_shade_asks.specs.Values.{values_above}
-use Rattle.nt_shade_asks.proofs.Counts.{one_place}
-use Rattle.nt_shade_asks.proofs.Moves.{carried}
+use Rattle.nt_shade_asks.proofs.Counts.{carried, one_place}
 
 module _ (s : Script) (x : Unnoticed) (of : IsOf s x) (p : CpuNo) (c : ℕ) (has : p.0 < s.cpus) (l : c < 16) where
   -- it is one of them

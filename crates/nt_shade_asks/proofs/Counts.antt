@@ -1,5 +1,5 @@
 -- Counts of asks are those of the history, and where they are the same, histories are alike in what was asked.
-use Rattle.std.proofs.Common.{ap, arith, drop, sym, take, ◌∙◌}
+use Rattle.std.proofs.Common.{ap, arith, drop, subst, sym, take, ◌∙◌}
 use Rattle.std.proofs.Math.Seq.{drop-append_seam, take-append_seam}
 use Rattle.std.proofs.lemmas.Bool.{eqb-false, eqb-true, ltb-true}
 use Rattle.std.proofs.lemmas.List.{get_or-map, length-map}
@@ -25,10 +25,8 @@ use Rattle.nt_alike.specs.Bare.{bare_own}
 use Rattle.nt_shade_asks.specs.declared.class_asks.ClassAsks.{ClassAsks}
 use Rattle.nt_shade_asks.specs.declared.unnoticed.Unnoticed.{Unnoticed}
 use Rattle.nt_shade_asks.specs.Counts.{AreFew, AskedAlike, TellsCounts, class_counts, counts_of, left_by, lefts}
-use Rattle.nt_shade_asks.specs.Follows.{HasLane, HasRoom, IsAsked, IsClassAsked, IsOf, place_of, tells}
-use Rattle.nt_shade_asks.specs.Values.{values_above}
+use Rattle.nt_shade_asks.specs.Follows.{HasLane, HasRoom, IsAsked, IsClassAsked, IsOf, place_of}
 use Rattle.nt_shade_asks.proofs.LaneNumbers.{number_below}
-use Rattle.nt_shade_asks.proofs.Moves.{carried}
 use Rattle.nt_shade_asks.proofs.Values.{count_above, few_above, length_above}
 
 -- ---- counts are those of the history
@@ -40,6 +38,11 @@ due_told s p c past l =
     let b : value_at (own_of s p past).served c ≡ served s p c past = get_or-table 16 c (λ k. served s p k past) 0 l in
     ap (λ (n : ℕ). nat_lt n (seen s p c past)) (sym b) ∙ ap (nat_lt (value_at (own_of s p past).served c)) (sym a)
 
+-- where no value is ahead none is left, whatever a lane tells
+same_told : (vs : List ℕ) (t u : ℕ) → (0 < length vs → t ≡ u) → left_by vs t ≡ left_by vs u
+same_told [] t u h = refl
+same_told (v ∷ vs) t u h = ap (left_by (v ∷ vs)) (h (omega arith))
+
 -- the counts of a class that is kept as the history has it are the counts of the history
 pub tells_counts : (s : Script) (past : List Event) (x : ClassAsks) → x.class < 16 → IsClassAsked s past x → TellsCounts s past x
 tells_counts s past x l k =
@@ -48,8 +51,8 @@ tells_counts s past x l k =
     record {
       due = ap (λ (n : ℕ). nat_lt n x.seen) k.served ∙ ap (nat_lt (served s x.cpu x.class past)) k.seen ∙ due_told s x.cpu x.class past l;
       ahead = ap length k.ahead ∙ length_above s x.cpu x.class old past ∙ ap (λ (v : ℕ). newer s x.cpu x.class v past) z;
-      left = λ lane f. ap (λ (vs : List ℕ). left_by vs (tells s x.told.items lane x.cpu x.class)) k.ahead
-          ∙ ap (left_by (values_above s x.cpu x.class old past)) (k.told lane f)
+      left = λ lane f. same_told x.ahead.items _ _ (λ some. k.told some lane f)
+          ∙ ap (λ (vs : List ℕ). left_by vs (told_by s lane x.cpu x.class past)) k.ahead
           ∙ count_above s x.cpu x.class old (told_by s lane x.cpu x.class past) past;
     }
 
@@ -75,18 +78,20 @@ same_parts xs ys a b l h = (
 )
 
 -- where as many are ahead, as many lanes are told of
-same_lefts_length : (xs ys t u : List ℕ) → length xs ≡ length ys → length t ≡ length u → length (lefts xs t) ≡ length (lefts ys u)
+same_lefts_length : (xs ys t u : List ℕ) → length xs ≡ length ys → (0 < length xs → length t ≡ length u) →
+    length (lefts xs t) ≡ length (lefts ys u)
 same_lefts_length [] [] t u h l = refl
-same_lefts_length (x ∷ xs) (y ∷ ys) t u h l = length-map t (left_by (x ∷ xs)) ∙ l ∙ sym (length-map u (left_by (y ∷ ys)))
+same_lefts_length (x ∷ xs) (y ∷ ys) t u h l = length-map t (left_by (x ∷ xs)) ∙ l (omega arith) ∙ sym (length-map u (left_by (y ∷ ys)))
 same_lefts_length [] (y ∷ ys) t u h l = absurd (omega (arith, h))
 same_lefts_length (x ∷ xs) [] t u h l = absurd (omega (arith, h))
 
 -- so it is of the counts of a class and those behind them
-same_class : (x y : ClassAsks) (a b : List ℕ) → length x.told.items ≡ length y.told.items → class_counts x ++ a ≡ class_counts y ++ b →
+same_class : (s : Script) (x y : ClassAsks) (a b : List ℕ) → HasRoom s x → HasRoom s y → class_counts x ++ a ≡ class_counts y ++ b →
     (class_counts x ≡ class_counts y) × (a ≡ b)
-same_class x y a b l h =
+same_class s x y a b r q h =
     let ahead : length x.ahead.items ≡ length y.ahead.items = ap (λ (ns : List ℕ). value_at ns 1) h in
-    let left = same_lefts_length x.ahead.items y.ahead.items x.told.items y.told.items ahead l in
+    let left = same_lefts_length x.ahead.items y.ahead.items x.told.items y.told.items ahead
+    (λ some. r.told some ∙ sym (q.told (subst (λ (n : ℕ). 0 < n) ahead some))) in
     same_parts (class_counts x) (class_counts y) a b (ap (λ (n : ℕ). suc (suc n)) left) h
 
 -- ---- what the same counts tell
@@ -115,7 +120,7 @@ all_two s h k (x ∷ xs) [] l r q a b e = absurd (omega (arith, l))
 all_two s h k (x ∷ xs) (y ∷ ys) l r q a b e =
     let rx = All-head (HasRoom s) x xs r in
     let ry = All-head (HasRoom s) y ys q in
-    let c = same_class x y (flat_map class_counts xs) (flat_map class_counts ys) (rx.told ∙ sym ry.told) e in (
+    let c = same_class s x y (flat_map class_counts xs) (flat_map class_counts ys) rx ry e in (
       record {
         first = All-head (IsClassAsked s h) x xs a;
         second = All-head (IsClassAsked s k) y ys b;
@@ -167,6 +172,10 @@ one_place x p c e k l =
     let b : c ≡ x.class = omega (arith, e, k, l) in
     (ap cpu a, b)
 
+-- what is said of a class of a processor is said of the same one
+pub carried : (R : CpuNo → ℕ → Type 0) (p q : CpuNo) (c d : ℕ) → p ≡ q → c ≡ d → R q d → R p c
+carried R p q c d e f h = subst (λ (u : CpuNo). R u c) (sym e) (subst (λ (n : ℕ). R q n) (sym f) h)
+
 module _ (s : Script) (past : List Event) (x : ClassAsks) (p : CpuNo) (c : ℕ) (e : place_of x ≡ p.0 * 16 + c) (r : HasRoom s x) (l : c < 16)
     (k : IsClassAsked s past x) where
   is_cpu : p ≡ x.cpu
@@ -189,13 +198,23 @@ module _ (s : Script) (past : List Event) (x : ClassAsks) (p : CpuNo) (c : ℕ) 
       p x.cpu c x.class is_cpu is_class ((tells_counts s past x r.class k).left lane f)
 
 -- where as much is left by each lane, so it is by this one
-same_left : (a b t u : List ℕ) (i : ℕ) → length a ≡ length b → lefts a t ≡ lefts b u → i < length t → i < length u →
-    left_by a (value_at t i) ≡ left_by b (value_at u i)
+same_left : (a b t u : List ℕ) (i : ℕ) → length a ≡ length b → lefts a t ≡ lefts b u → (0 < length a → i < length t) →
+    (0 < length b → i < length u) → left_by a (value_at t i) ≡ left_by b (value_at u i)
 same_left [] [] t u i n e l m = refl
 same_left [] (y ∷ ys) t u i n e l m = absurd (omega (arith, n))
 same_left (x ∷ xs) [] t u i n e l m = absurd (omega (arith, n))
 same_left (x ∷ xs) (y ∷ ys) t u i n e l m =
-    sym (get_or-map (left_by (x ∷ xs)) t i 0 0 l) ∙ ap (λ (ns : List ℕ). value_at ns i) e ∙ get_or-map (left_by (y ∷ ys)) u i 0 0 m
+    sym (get_or-map (left_by (x ∷ xs)) t i 0 0 (l (omega arith)))
+    ∙ ap (λ (ns : List ℕ). value_at ns i) e
+    ∙ get_or-map (left_by (y ∷ ys)) u i 0 0 (m (omega arith))
+
+-- each lane of the script has a value, where any value is ahead
+lane_inside : (s : Script) (x : ClassAsks) (lane : Lane) → HasRoom s x → HasLane s lane → 0 < length x.ahead.items →
+    lane_number s lane < length x.told.items
+lane_inside s x lane r f some =
+    let n = number_below s lane f in
+    let u = r.told some in
+    omega (arith, n, u)
 
 -- a test and a count of it
 same_test : (a b : Bool) → count_if a ≡ count_if b → a ≡ b
@@ -241,9 +260,7 @@ same_counts s h k x y f g a b e = record { due = due; asks = asks; told = told }
         let l = used_below c used in
         let two = two_of s h k x y f g a b e p c has l in
         let t = two.4 in
-        let n = number_below s lane has_it in
-        let u = t.first_room.told in
-        let v = t.second_room.told in
         let left = same_left two.0.ahead.items two.1.ahead.items two.0.told.items two.1.told.items (lane_number s lane)
-        (ap (λ (ns : List ℕ). value_at ns 1) t.same) (ap (λ (ns : List ℕ). tail_of (tail_of ns)) t.same) (omega (arith, n, u)) (omega (arith, n, v)) in
+        (ap (λ (ns : List ℕ). value_at ns 1) t.same) (ap (λ (ns : List ℕ). tail_of (tail_of ns)) t.same) (lane_inside s two.0 lane t.first_room has_it)
+        (lane_inside s two.1 lane t.second_room has_it) in
         sym (left_at s h two.0 p c two.2 t.first_room l t.first lane has_it) ∙ left ∙ left_at s k two.1 p c two.3 t.second_room l t.second lane has_it

@@ -1,8 +1,5 @@
 pub mod Values
 pub mod LaneNumbers
-pub mod Told
-pub mod Moves
-pub mod Rows
-pub mod New
+pub mod Placed
 pub mod Counts
 pub mod Ahead

@@ -1,5 +1,5 @@
 -- The values by which a processor was asked: which of them stand above a value, and how many.
-use Rattle.std.proofs.Common.{ap, append-nil, arith, sym, ◌∙◌}
+use Rattle.std.proofs.Common.{ap, arith, sym, ◌∙◌}
 use Rattle.std.proofs.lemmas.Bool.{le-ltb, lt-ltb, ltb-false, ltb-true}
 use Rattle.std.proofs.lemmas.List.{length-append}
 use Rattle.std.proofs.lemmas.List.Elements.{filter-append}
@@ -58,10 +58,6 @@ module _ (s : Script) (p : CpuNo) (c : ℕ) where
       no_value : (b : Bool) → [] ++ value_if (b && false) (length past + 1) ≡ []
       no_value true = refl
       no_value false = refl
-
-  -- an event that doesn't ask adds none
-  pub above_quiet : (v : ℕ) (e : Event) (past : List Event) → asks s p c e past ≡ false → values_above s p c v (e ∷ past) ≡ values_above s p c v past
-  above_quiet v e past a = rw a (append-nil (values_above s p c v past))
 
   length_one : (b : Bool) (m : ℕ) → length (value_if b m) ≡ count_if b
   length_one true m = refl

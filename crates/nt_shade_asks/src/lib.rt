@@ -1,10 +1,10 @@
 //! What the processors of a script have been asked for and have not noticed yet.
 //!
 //! An event may ask a processor for a class: to run DPCs, to deliver an APC, to take an interrupt.
-//! The processor notices it later, by a look or where a lane tells it. [`Unnoticed`] follows the
-//! events of a history one by one and keeps, for each class of each processor, what was asked and
-//! not noticed, and what each lane would tell. It keeps numbers of events, but what it tells are
-//! counts: histories with the same counts are alike in what was asked.
+//! The processor notices it later, by a look or where a lane tells it. [`Unnoticed`] keeps of a
+//! history, for each class of each processor, what was asked and not noticed, and, where there is
+//! any, what each lane would tell. It keeps numbers of events, but what it tells are counts:
+//! histories with the same counts are alike in what was asked.
 #![tactic(auto)]
 
 ghost use Rattle.nt_shade_asks.specs.Counts.{CountsAreOfTheHistory, CountsFit};

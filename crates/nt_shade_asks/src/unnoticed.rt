@@ -1,17 +1,15 @@
 //! What all processors were asked for.
-ghost use Rattle.std.specs.Prelude.{◌≡◌, ◌+◌, ◌++◌, ◌<◌, ◌^◌, ◌∷◌, [], All, IfOk, IsTrue, List};
-ghost use Rattle.std.specs.Prelude.{OnOk};
+ghost use Rattle.std.specs.Prelude.{◌≡◌, ◌++◌, ◌<◌, List, OnOk};
 ghost use Rattle.nt_event.specs.declared.events.Event.{Event};
 ghost use Rattle.nt_event.specs.declared.scripts.Script.{Script};
 ghost use Rattle.nt_event.specs.Requests.{seen};
-ghost use Rattle.nt_event.specs.Script.{fits};
 ghost use Rattle.nt_shade_asks.specs.Counts.{AreFew, counts_of};
-ghost use Rattle.nt_shade_asks.specs.Follows.{HasLane, IsAsked, IsNext, IsOf};
+ghost use Rattle.nt_shade_asks.specs.Follows.{IsAsked, IsOf};
 ghost use Rattle.nt_shade_asks.specs.Values.{values_above};
 
 use crate::class_asks::ClassAsks;
-use nt_event::{Asked, CpuNo, Event, Lane, Script, class};
-use std::alloc::{AllocError, Global};
+use nt_event::{CpuNo, class};
+use std::alloc::AllocError;
 
 /// What the processors of a script were asked for and have not noticed, class by class.
 #[derive(Drop, Debug)]
@@ -21,22 +19,6 @@ pub struct Unnoticed {
 }
 
 impl Unnoticed {
-    /// Nothing was asked.
-    pub fn new(alloc: Global, script: &Script) -> Result<Unnoticed, AllocError>
-        requires { IsTrue (fits script.now) }
-        ensures of { IfOk result (IsOf script.now) }
-        ensures asked { IfOk result (IsAsked script.now []) }
-    {
-        let lanes = script.lane_count();
-        let mut classes = Vec::new(alloc);
-        for cpu in 0..script.cpus {
-            for class in 0..class::COUNT {
-                classes.push(ClassAsks::new(alloc, CpuNo(cpu), class as u8, lanes)?)?;
-            }
-        }
-        Ok(Unnoticed { classes })
-    }
-
     /// The values that the processor was asked by for the class and has not noticed, in rising
     /// order.
     pub fn ahead(&self, cpu: CpuNo, class: u8) -> &[u64]
@@ -50,30 +32,6 @@ impl Unnoticed {
             Some(row) => row.ahead(),
             None => &[],
         }
-    }
-
-    /// Takes in the event of this number, which asks for these and touches these lanes. Where no
-    /// memory is found, some classes may have taken it in and others not: it is then of no use.
-    pub fn follow(
-        &mut self,
-        script: &Script,
-        number: u64,
-        event: &Event,
-        asks: &[Asked],
-        lanes: &[Lane],
-    ) -> Result<(), AllocError>
-        requires of { IsOf script.now self.old }
-        requires lanes { All (HasLane script.now) lanes.now }
-        requires number { number + 1 < 2 ^ 64 }
-        ensures of { IsOf script.now self.new }
-        ensures asked { (past : List Event) → IsAsked script.now past self.old →
-            IsNext script.now past number event.now asks.now lanes.now →
-            OnOk result (IsAsked script.now (event.now ∷ past) self.new) }
-    {
-        for row in self.classes.iter_mut() {
-            row.follow(script, number, event, asks, lanes)?;
-        }
-        Ok(())
     }
 
     /// Adds what can be compared: histories with the same counts have the same of what was asked

@@ -2,11 +2,17 @@ use Rattle.std.proofs.Common.{ap, arith, get_or, length, refl, subst, sym, â—Œ*â
 use Rattle.std.specs.Prelude.{List}
 use Rattle.nt_cpu.specs.States.{CpuState}
 use Rattle.nt_shade_asks.specs.Follows.{place_of}
-use Rattle.nt_shade.proofs.Rows.{AreRows, has_word, is_read_of, no_rows, number_fits, row_on, rows_asked, rows_of, seen_count}
+use Rattle.nt_shade.proofs.Rows.{AreRows, has_word, is_read_of, no_rows, number_fits, room_fits, row_on, rows_asked, rows_of, seen_count}
 use Rattle.nt_shade.proofs.asks.unnoticed_of.Goals as goal
 
+pub overflow_mul-cpus : goal.overflow_mul-cpus
+overflow_mul-cpus c =
+    let same = ap length c.cpus-cpus.ensures in
+    let fits = room_fits c.requires.0 c.args.processors.now c.args.floor.now c.requires.1 in
+    omega (arith, same, fits)
+
 pub loop-number-init : goal.loop-number-init
-loop-number-init c = no_rows c.args.processors.now.cpus c.args.floor.now c.new-classes.result.items c.new-classes.ensures.items
+loop-number-init c = no_rows c.args.processors.now.cpus c.args.floor.now c.in_ok-classes.classes.items c.in_ok-classes.ensures.items
 
 pub overflow_cast-cpu : goal.overflow_cast-cpu
 overflow_cast-cpu c =
