@@ -1,35 +1,46 @@
 -- What is written: what a search says of each expectation, or why an input is refused; and the exit statuses.
-use Rattle.std.specs.Prelude.{ℕ, ◌+◌, Bool, true, false, List, [], ◌∷◌, ◌++◌, codes, decimal, if◌then◌else◌}
+use Rattle.std.specs.Prelude.{◌≡◌, ℕ, ◌+◌, Bool, true, false, List, [], ◌∷◌, ◌++◌, codes, decimal, if◌then◌else◌}
 use Rattle.std.specs.List.{join_with_byte, list_any}
+use Rattle.nt_event.specs.declared.scripts.Script.{Script}
 use Rattle.nt_text.specs.declared.kind.ScriptKind.{ScriptKind}
 use Rattle.nt_text.specs.declared.kind.ScriptKind.TheVariants.{TooMany}
 use Rattle.nt_text.specs.Kinds.{kind_name, kind_number, thing_name}
+use Rattle.nt_text.specs.Lines.{spaced}
 use Rattle.nt_line.specs.NameLists.{NameLists}
 use Rattle.nt_expect.specs.declared.expectations.Expectation.{Expectation}
 use Rattle.nt_expect.specs.declared.refusals.ExpectKind.{ExpectKind}
-use Rattle.nt_expect.specs.Expectations.{expectation_row}
+use Rattle.nt_expect.specs.Expectations.{expectation_row, watched_fits, watched_row}
 use Rattle.nt_expect.specs.Kinds.{expect_name, expect_number}
 use Rattle.nt_ask.specs.declared.answer.Answer.{Answer}
 use Rattle.nt_ask.specs.declared.answer.Status.{Status}
 use Rattle.nt_ask.specs.declared.answer.Status.TheVariants as exit
 use Rattle.nt_ask.specs.declared.answer.Verdict.{Verdict}
-use Rattle.nt_ask.specs.declared.answer.Verdict.TheVariants.{Holds, HoldsWithin, FailsAt, Unknown}
+use Rattle.nt_ask.specs.declared.answer.Verdict.TheVariants.{Holds, HoldsWithin, HoldsWithout, FailsAt, Unknown}
 use Rattle.nt_ask.specs.declared.reading.AskRefusal.{AskRefusal}
 use Rattle.nt_ask.specs.declared.reading.AskRefusal.TheVariants as refusal
 
 -- ---- the text of an answer
 
--- what is said of an expectation
-abbrev pub verdict_text : Verdict → List ℕ
-verdict_text Holds = codes "holds"
-verdict_text (HoldsWithin events) = codes "holds within " ++ decimal events
-verdict_text (FailsAt event) = codes "fails at " ++ decimal event
-verdict_text Unknown = codes "unknown"
+-- the event that it names is of the script
+abbrev pub VerdictFits : Script → Verdict → Type 0
+VerdictFits s Holds = Unit {0}
+VerdictFits s (HoldsWithin events) = Unit {0}
+VerdictFits s (HoldsWithout event) = watched_fits s event ≡ true
+VerdictFits s (FailsAt event) = Unit {0}
+VerdictFits s Unknown = Unit {0}
+
+-- what is said of an expectation. An event that never comes is written as in the line of an expectation.
+abbrev pub verdict_text : NameLists → Verdict → List ℕ
+verdict_text names Holds = codes "holds"
+verdict_text names (HoldsWithin events) = codes "holds within " ++ decimal events
+verdict_text names (HoldsWithout event) = codes "holds," ++ (spaced (watched_row names event) ++ codes " never comes")
+verdict_text names (FailsAt event) = codes "fails at " ++ decimal event
+verdict_text names Unknown = codes "unknown"
 
 -- the line of an expectation: its number, its text, and what the search says of it
 abbrev pub verdict_line : NameLists → ℕ → Expectation → Verdict → List ℕ
 verdict_line names number e v = decimal number ++ 32 ∷ (join_with_byte 32 (expectation_row names e)
-    ++ (codes ": " ++ (verdict_text v ++ 10 ∷ [])))
+    ++ (codes ": " ++ (verdict_text names v ++ 10 ∷ [])))
 
 -- a line for each expectation with its verdict, of which the first has this number
 abbrev pub verdict_lines : NameLists → ℕ → List Expectation → List Verdict → List ℕ
@@ -85,12 +96,16 @@ status_number exit.Write = 5
 status_number exit.Memory = 6
 status_number exit.TooLong = 7
 status_number exit.Fails = 9
+status_number exit.NoExpectation = 9
+status_number exit.NoWitness = 9
 status_number exit.Unknown = 10
+status_number exit.TooManyTurns = 11
 
 -- the expectation fails in a run
 abbrev pub is_failure : Verdict → Bool
 is_failure Holds = false
 is_failure (HoldsWithin events) = false
+is_failure (HoldsWithout event) = false
 is_failure (FailsAt event) = true
 is_failure Unknown = false
 
@@ -98,6 +113,7 @@ is_failure Unknown = false
 abbrev pub is_unknown : Verdict → Bool
 is_unknown Holds = false
 is_unknown (HoldsWithin events) = false
+is_unknown (HoldsWithout event) = false
 is_unknown (FailsAt event) = false
 is_unknown Unknown = true
 

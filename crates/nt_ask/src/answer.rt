@@ -1,15 +1,17 @@
 //! What a search says of expectations, its text, and how the program ends.
-ghost use Rattle.std.specs.Prelude.{◌+◌, ◌++◌, ◌≡◌, IfOk, OnOk, drop, length, string_bytes, true};
+ghost use Rattle.std.specs.Prelude.{◌+◌, ◌++◌, ◌≡◌, All, IfOk, OnOk, drop, length, string_bytes};
+ghost use Rattle.std.specs.Prelude.{true};
 ghost use Rattle.std.specs.List.{list_any};
-ghost use Rattle.nt_expect.specs.Expectations.{expectation_fits, expectations_fit};
+ghost use Rattle.nt_expect.specs.Expectations.{expectation_fits, expectations_fit, watched_fits};
 ghost use Rattle.nt_script.specs.Sound.{IsSound};
-ghost use Rattle.nt_ask.specs.Answers.{answer_text, cut_text, expect_line, is_failure, is_unknown};
-ghost use Rattle.nt_ask.specs.Answers.{kind_text, refusal_text, script_line, states_line};
-ghost use Rattle.nt_ask.specs.Answers.{status_number, verdict_line, verdict_lines};
-ghost use Rattle.nt_ask.specs.Answers.{verdict_status, verdict_text};
+ghost use Rattle.nt_ask.specs.declared.answer.Verdict.TheVariants.{HoldsWithout};
+ghost use Rattle.nt_ask.specs.Answers.{VerdictFits, answer_text, cut_text, expect_line};
+ghost use Rattle.nt_ask.specs.Answers.{is_failure, is_unknown, kind_text, refusal_text};
+ghost use Rattle.nt_ask.specs.Answers.{script_line, states_line, status_number, verdict_line};
+ghost use Rattle.nt_ask.specs.Answers.{verdict_lines, verdict_status, verdict_text};
 
 use crate::reading::AskRefusal;
-use nt_expect::{ExpectKind, Expectation, put_expectation};
+use nt_expect::{ExpectKind, Expectation, Watched, put_expectation, put_watched};
 use nt_script::{Input, ScriptKind};
 use nt_text::put_digits;
 use std::alloc::{AllocError, Global};
@@ -21,6 +23,8 @@ pub enum Verdict {
     Holds,
     /// Every run ends, with at most so many events.
     HoldsWithin(u32),
+    /// It fails in no run, and this event comes in none.
+    HoldsWithout(Watched),
     /// It fails in a run, and the event of this number shows it, or all events before it.
     FailsAt(u32),
     /// Nothing is known.
@@ -43,7 +47,7 @@ pub struct Answer {
 /// How the program ends.
 #[derive(Clone, Copy, PartialEq, Eq, Debug)]
 pub enum Status {
-    /// Each expectation holds.
+    /// Each expectation holds; of a witness: it is written.
     Ok,
     /// The words are no form of the command line.
     Usage,
@@ -59,12 +63,19 @@ pub enum Status {
     TooLong,
     /// An expectation fails in a run.
     Fails,
-    /// None is known to fail, and nothing is known of one.
+    /// There are fewer expectations than the number of the one whose witness is asked for.
+    NoExpectation,
+    /// The expectation whose witness is asked for holds.
+    NoWitness,
+    /// None is known to fail, and nothing is known of one; of a witness: nothing is known of its
+    /// expectation.
     Unknown,
+    /// The expectation fails, but a processor needs more turns there than a schedule may have.
+    TooManyTurns,
 }
 
 impl Status {
-    /// The number that the process ends with: as those of `ntrun`, but for 9 and 10.
+    /// The number that the process ends with: as those of `ntrun`, but for 9 to 11.
     pub fn number(self) -> u8
         ensures { result ≡ status_number self }
     {
@@ -76,8 +87,9 @@ impl Status {
             Status::Write => 5,
             Status::Memory => 6,
             Status::TooLong => 7,
-            Status::Fails => 9,
+            Status::Fails | Status::NoExpectation | Status::NoWitness => 9,
             Status::Unknown => 10,
+            Status::TooManyTurns => 11,
         }
     }
 }
@@ -88,7 +100,10 @@ impl Verdict {
         ensures { result ≡ is_failure self }
     {
         match self {
-            Verdict::Holds | Verdict::HoldsWithin(_) | Verdict::Unknown => false,
+            Verdict::Holds
+            | Verdict::HoldsWithin(_)
+            | Verdict::HoldsWithout(_)
+            | Verdict::Unknown => false,
             Verdict::FailsAt(_) => true,
         }
     }
@@ -98,7 +113,10 @@ impl Verdict {
         ensures { result ≡ is_unknown self }
     {
         match self {
-            Verdict::Holds | Verdict::HoldsWithin(_) | Verdict::FailsAt(_) => false,
+            Verdict::Holds
+            | Verdict::HoldsWithin(_)
+            | Verdict::HoldsWithout(_)
+            | Verdict::FailsAt(_) => false,
             Verdict::Unknown => true,
         }
     }
@@ -133,9 +151,24 @@ pub fn verdict_status(answer: &Answer) -> Status
     }
 }
 
+/// Adds that an expectation holds, and that this event never comes.
+fn put_without(out: &mut Vec<u8>, input: &Input, event: &Watched) -> Result<(), AllocError>
+    requires sound { IsSound input.now }
+    requires fits { watched_fits input.now.script event.now ≡ true }
+    ensures { OnOk result
+        (out.new.items ≡ out.old.items ++ verdict_text input.now.names (HoldsWithout event.now)) }
+{
+    out.extend_from_slice(b"holds,")?;
+    put_watched(out, input, event)?;
+    out.extend_from_slice(b" never comes")
+}
+
 /// Adds what is said of an expectation.
-fn put_verdict(out: &mut Vec<u8>, verdict: Verdict) -> Result<(), AllocError>
-    ensures { OnOk result (out.new.items ≡ out.old.items ++ verdict_text verdict) }
+fn put_verdict(out: &mut Vec<u8>, input: &Input, verdict: Verdict) -> Result<(), AllocError>
+    requires sound { IsSound input.now }
+    requires fits { VerdictFits input.now.script verdict }
+    ensures { OnOk result
+        (out.new.items ≡ out.old.items ++ verdict_text input.now.names verdict) }
 {
     match verdict {
         Verdict::Holds => out.extend_from_slice(b"holds"),
@@ -143,6 +176,7 @@ fn put_verdict(out: &mut Vec<u8>, verdict: Verdict) -> Result<(), AllocError>
             out.extend_from_slice(b"holds within ")?;
             put_digits(out, u64::from(events))
         }
+        Verdict::HoldsWithout(event) => put_without(out, input, &event),
         Verdict::FailsAt(event) => {
             out.extend_from_slice(b"fails at ")?;
             put_digits(out, u64::from(event))
@@ -161,6 +195,7 @@ fn put_line(
 ) -> Result<(), AllocError>
     requires sound { IsSound input.now }
     requires fits { expectation_fits input.now.script expectation.now ≡ true }
+    requires verdict_fits { VerdictFits input.now.script verdict }
     ensures { OnOk result (out.new.items ≡ out.old.items
         ++ verdict_line input.now.names number expectation.now verdict) }
 {
@@ -168,7 +203,7 @@ fn put_line(
     out.push(b' ')?;
     put_expectation(out, input, expectation)?;
     out.extend_from_slice(b": ")?;
-    put_verdict(out, verdict)?;
+    put_verdict(out, input, verdict)?;
     out.push(b'\n')?;
     Ok(())
 }
@@ -183,6 +218,7 @@ fn put_lines(
     requires sound { IsSound input.now }
     requires fit { expectations_fit input.now.script expectations.now ≡ true }
     requires all { length verdicts.now ≡ length expectations.now }
+    requires verdicts_fit { All (VerdictFits input.now.script) verdicts.now }
     ensures { OnOk result (out.new.items ≡ out.old.items
         ++ verdict_lines input.now.names 1 expectations.now verdicts.now) }
 {
@@ -212,8 +248,8 @@ fn put_states(out: &mut Vec<u8>, answer: &Answer) -> Result<(), AllocError>
     Ok(())
 }
 
-/// The text of what a search says of expectations that name things of the input's script. An error
-/// is want of memory.
+/// The text of what a search says of expectations that name things of the input's script, as do the
+/// events that never come. An error is want of memory.
 pub fn print_answer(
     alloc: Global,
     input: &Input,
@@ -223,6 +259,7 @@ pub fn print_answer(
     requires sound { IsSound input.now }
     requires fit { expectations_fit input.now.script expectations.now ≡ true }
     requires all { length answer.now.verdicts.items ≡ length expectations.now }
+    requires verdicts_fit { All (VerdictFits input.now.script) answer.now.verdicts.items }
     ensures { IfOk result (λ text. text.items
         ≡ answer_text input.now.names expectations.now answer.now) }
 {

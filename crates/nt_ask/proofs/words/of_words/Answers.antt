@@ -1,7 +1,0 @@
-use Rattle.std.proofs.Common.{sym}
-use Rattle.std.specs.Prelude.{string_bytes}
-use Rattle.nt_ask.proofs.Forms.{too_many}
-use Rattle.nt_ask.proofs.words.of_words.Goals as goal
-
-pub returns-in_default-2-clause-value : goal.returns-in_default-2-clause-value
-returns-in_default-2-clause-value c = sym (too_many string_bytes c.args.words.now c.in_default.len_at_least)
