@@ -1,0 +1,10 @@
+pub mod Cuts
+pub mod Putting
+pub mod Bytes
+pub mod Again
+pub mod Rows
+pub mod Plain
+pub mod Names
+pub mod Numbers
+pub mod Places
+pub mod Short
