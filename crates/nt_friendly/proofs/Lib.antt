@@ -8,3 +8,5 @@ pub mod Names
 pub mod Numbers
 pub mod Places
 pub mod Short
+pub mod Named
+pub mod Expected

@@ -30,7 +30,7 @@ abbrev pub RefusesLevels : (List ℕ → Bool) → Type 0
 RefusesLevels test = (f : List ℕ) → test f ≡ true → (level_text f ≡ f) × (bytes_eq f (codes "DIRQL") ≡ false)
 
 -- where neither is written otherwise nor left out, all stays
-written_stays : (n : Next) (f : List ℕ) → level_text f ≡ f → written n f ≡ f
+pub written_stays : (n : Next) (f : List ℕ) → level_text f ≡ f → written n f ≡ f
 written_stays next.Word f e = refl
 written_stays next.Name f e = refl
 written_stays next.Bound f e = e
@@ -40,7 +40,7 @@ written_stays next.Level f e = e
 written_stays next.Rest f e = refl
 
 -- a field that is not DIRQL is not left out
-not_left : (n : Next) (f behind : List ℕ) → bytes_eq f (codes "DIRQL") ≡ false → is_left_out n f behind ≡ false
+pub not_left : (n : Next) (f behind : List ℕ) → bytes_eq f (codes "DIRQL") ≡ false → is_left_out n f behind ≡ false
 not_left next.Word f behind e = refl
 not_left next.Name f behind e = refl
 not_left next.Bound f behind e = rw e refl
@@ -66,12 +66,12 @@ pub name_stays : (n : Next) (f behind : List ℕ) → is_name f ≡ true → (wr
 name_stays n f behind e = (written_stays n f (name_text f e), not_left n f behind (name_dirql f e))
 
 -- no plain field is the name of a level
-plain_text : (f : List ℕ) → is_plain f ≡ true → level_text f ≡ f
+pub plain_text : (f : List ℕ) → is_plain f ≡ true → level_text f ≡ f
 plain_text f e = level_cases (λ x y. is_plain x ≡ true → y ≡ x) (λ h. absurd cc) (λ h. absurd cc) (λ h. absurd cc) (λ h. absurd cc) (λ h. absurd cc)
     (λ h. absurd cc) (λ h. absurd cc) (λ g e h. refl) f e
 
 -- no plain field is DIRQL
-plain_dirql : (f : List ℕ) → is_plain f ≡ true → bytes_eq f (codes "DIRQL") ≡ false
+pub plain_dirql : (f : List ℕ) → is_plain f ≡ true → bytes_eq f (codes "DIRQL") ≡ false
 plain_dirql f e = false_from_ne_true (bytes_eq f (codes "DIRQL")) (λ same. no (ap is_plain (sym ((bytes_eq-Decides f (codes "DIRQL")).0 same)) ∙ e))
   where
     no : is_plain (codes "DIRQL") ≡ true → ⊥
@@ -103,7 +103,7 @@ plain_byte c e = elim (or_cases (is_name_byte c) (c == 45) e) [
     )
 
 -- a plain field is a strict one
-plain_strict : (f : List ℕ) → is_plain f ≡ true → IsStrictField f
+pub plain_strict : (f : List ℕ) → is_plain f ≡ true → IsStrictField f
 plain_strict f e =
     let both = and_parts (is_filled f) (list_all is_plain_byte f) e in
     (both.0, weaker is_plain_byte is_strict_byte (λ c h. (plain_byte c h).0) f both.1)
@@ -128,7 +128,7 @@ abbrev pub ArePlain : Row → Type 0
 ArePlain row = AllByRecursion (λ f. is_plain f ≡ true) row
 
 -- the fields of a plain row are plain
-plain_fields : (row : Row) → IsPlainRow row → ArePlain row
+pub plain_fields : (row : Row) → IsPlainRow row → ArePlain row
 plain_fields [] h = tt
 plain_fields (f ∷ []) h = (h.0, tt)
 plain_fields (f ∷ g ∷ fs) h = (h.0, plain_fields (g ∷ fs) h.1)
@@ -161,6 +161,10 @@ rows_strict : (rows : List Row) → AllPlainRows rows → AllByRecursion IsStric
 rows_strict [] h = tt
 rows_strict (row ∷ rows) h = (row_strict row h.0, rows_strict rows h.1)
 
+-- the rows of a sound input are strict
+pub script_strict : (input : Input) → IsSound input → AllByRecursion IsStrictRow (input_rows input)
+script_strict input sound = rows_strict (input_rows input) (input_clean input (sound_fits input sound))
+
 -- the text of a sound input means itself
 pub script_stays : (input : Input) → IsSound input → strict_text (text input) ≡ text input
-script_stays input sound = rows_stay (input_rows input) (rows_strict (input_rows input) (input_clean input (sound_fits input sound)))
+script_stays input sound = rows_stay (input_rows input) (script_strict input sound)

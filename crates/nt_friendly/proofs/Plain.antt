@@ -85,7 +85,7 @@ digit_byte c e = go (is_ascii_lowercase c) (is_ascii_digit c) (c == 95) (c == 45
     go false false d g h = absurd cc
 
 -- decimal digits, with their value read from the left, are numerals
-own : IsNumeralModel (λ ds. all_ascii_digits ds ≡ true) (read_on 0)
+pub own : IsNumeralModel (λ ds. all_ascii_digits ds ≡ true) (read_on 0)
 own = numerals_by_fold _ (search rules) read_on (search rules)
 
 -- bytes that are all digits are plain
@@ -95,7 +95,7 @@ digits_plain (c ∷ cs) e = let p = and_parts (is_ascii_digit c) (all_ascii_digi
     and_from (is_plain_byte c) (list_all is_plain_byte cs) (digit_byte c p.0) (digits_plain cs p.1)
 
 -- the decimal digits of a number are a plain field
-decimal_field : (n : ℕ) → n < 2 ^ 64 → is_plain (decimal n) ≡ true
+pub decimal_field : (n : ℕ) → n < 2 ^ 64 → is_plain (decimal n) ≡ true
 decimal_field n lt = and_from (is_filled (decimal n)) (list_all is_plain_byte (decimal n)) (filled (decimal n) (decimal_nonempty n lt))
     (digits_plain (decimal n) (digits_decimal own n lt))
   where
@@ -109,23 +109,23 @@ rows_both [] b p q = q
 rows_both (r ∷ a) b p q = (p.0, rows_both a b p.1 q)
 
 -- the name of each DPC object is plain
-dpc_field : (names : NameLists) (fit : NamesFit names) (i : ℕ) → i < length names.dpcs → is_plain (get_or names.dpcs i []) ≡ true
+pub dpc_field : (names : NameLists) (fit : NamesFit names) (i : ℕ) → i < length names.dpcs → is_plain (get_or names.dpcs i []) ≡ true
 dpc_field names fit i lt = name_field (get_or names.dpcs i []) (is_new [] names.dpcs i fit.dpcs lt).0
 
 -- the name of each timer is plain
-timer_field : (names : NameLists) (fit : NamesFit names) (i : ℕ) → i < length names.timers → is_plain (get_or names.timers i []) ≡ true
+pub timer_field : (names : NameLists) (fit : NamesFit names) (i : ℕ) → i < length names.timers → is_plain (get_or names.timers i []) ≡ true
 timer_field names fit i lt = name_field (get_or names.timers i []) (is_new names.dpcs names.timers i fit.timers lt).0
 
 -- the name of each thread is plain
-thread_field : (names : NameLists) (fit : NamesFit names) (i : ℕ) → i < length names.threads → is_plain (get_or names.threads i []) ≡ true
+pub thread_field : (names : NameLists) (fit : NamesFit names) (i : ℕ) → i < length names.threads → is_plain (get_or names.threads i []) ≡ true
 thread_field names fit i lt = name_field (get_or names.threads i []) (is_new (names.dpcs ++ names.timers) names.threads i fit.threads lt).0
 
 -- the name of each APC object is plain
-apc_field : (names : NameLists) (fit : NamesFit names) (i : ℕ) → i < length names.apcs → is_plain (get_or names.apcs i []) ≡ true
+pub apc_field : (names : NameLists) (fit : NamesFit names) (i : ℕ) → i < length names.apcs → is_plain (get_or names.apcs i []) ≡ true
 apc_field names fit i lt = name_field (get_or names.apcs i []) (is_new ((names.dpcs ++ names.timers) ++ names.threads) names.apcs i fit.apcs lt).0
 
 -- the name of a lock is plain
-lock_field : (names : NameLists) (fit : NamesFit names) (i : ℕ) → i < length names.locks → is_plain (get_or names.locks i []) ≡ true
+pub lock_field : (names : NameLists) (fit : NamesFit names) (i : ℕ) → i < length names.locks → is_plain (get_or names.locks i []) ≡ true
 lock_field names fit i lt = name_field (get_or names.locks i [])
     (is_new (((names.dpcs ++ names.timers) ++ names.threads) ++ names.apcs) names.locks i fit.locks lt).0
 
@@ -135,7 +135,7 @@ routine_field names fit i lt = name_field (get_or names.routines i [])
     (is_new ((((names.dpcs ++ names.timers) ++ names.threads) ++ names.apcs) ++ names.locks) names.routines i fit.routines lt).0
 
 -- a processor of at most 64 is shown as a plain field
-cpu_field : (p : CpuNo) (cpus : ℕ) → cpus ≤ 64 → p.0 < cpus → is_plain (show_cpu p) ≡ true
+pub cpu_field : (p : CpuNo) (cpus : ℕ) → cpus ≤ 64 → p.0 < cpus → is_plain (show_cpu p) ≡ true
 cpu_field p cpus few lt = decimal_field p.0 (omega arith)
 
 -- the target processor of a thing, or its absence, is shown as a plain field
@@ -180,7 +180,8 @@ on_off_field false = refl
 -- ---- lines
 
 -- the row of a command that fits is a plain row
-command_clean : (names : NameLists) (fit : NamesFit names) (cpus : ℕ) → cpus ≤ 64 → (c : Command) → CommandFits names cpus c → IsPlainRow (command_row names c)
+pub command_clean : (names : NameLists) (fit : NamesFit names) (cpus : ℕ) → cpus ≤ 64 → (c : Command) → CommandFits names cpus c →
+    IsPlainRow (command_row names c)
 command_clean names fit cpus few (cmd.Raise level) h = (refl, (decimal_field level (omega (arith, h)), tt))
 command_clean names fit cpus few (cmd.Lower level) h = (refl, (decimal_field level (omega (arith, h)), tt))
 command_clean names fit cpus few (cmd.Queue d) h = (refl, (dpc_field names fit d.0 h, tt))

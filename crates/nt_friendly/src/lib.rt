@@ -17,7 +17,8 @@ mod tidying;
 
 pub use fields::field_place;
 pub use laws::{
-    each_line_has_its_number, fields_stand_at_their_places, names_stay, strict_texts_stay,
+    each_line_has_its_number, fields_stand_at_their_places, levels_may_be_named, names_stay,
+    strict_texts_stay,
 };
 pub use tidying::{Tidied, tidy};
 

@@ -1,6 +1,7 @@
 use Rattle.std.proofs.Common.{ap, sym, ◌∙◌}
 use Rattle.nt_script.proofs.Contract.{reading_is_text}
 use Rattle.nt_friendly.specs.Text.{strict_text}
+use Rattle.nt_friendly.proofs.Expected.{asked_stays}
 use Rattle.nt_friendly.proofs.Names.{script_stays}
 use Rattle.nt_friendly.proofs.Rows.{rows_stay, text_stays}
 use Rattle.nt_friendly.proofs.laws.strict_texts_stay.Goals as goal
@@ -13,6 +14,9 @@ returns-clause-again c = text_stays
 
 pub returns-clause-printed : goal.returns-clause-printed
 returns-clause-printed c = script_stays
+
+pub returns-clause-asked : goal.returns-clause-asked
+returns-clause-asked c = asked_stays
 
 pub returns-clause-read : goal.returns-clause-read
 returns-clause-read c = λ bytes input e.
