@@ -11,3 +11,4 @@ pub mod Expanded
 pub mod Progress
 pub mod Ending
 pub mod Verdict
+pub mod Hunts

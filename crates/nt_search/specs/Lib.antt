@@ -7,3 +7,4 @@ pub mod Tried
 pub mod Failures
 pub mod Ends
 pub mod Searches
+pub mod Hunts

@@ -19,7 +19,7 @@ use nt_event::Turn;
 use std::alloc::{AllocError, Global};
 
 /// Whether the turn is a look at several classes at once.
-fn is_wide(turn: &Turn) -> bool {
+pub(crate) fn is_wide(turn: &Turn) -> bool {
     match turn {
         Turn::Look(_, rises) => rises.value.iter().filter(|value| **value != 0).count() > 1,
         Turn::Next(_) | Turn::Switch(_, _) => false,
@@ -92,16 +92,18 @@ impl<'s> Plan<'s> {
     }
 
     /// Tries the turn from the state of this number, in which both machines stand, and the next one
-    /// again afterwards.
-    fn try_turn(
+    /// again afterwards. What comes of it is noted in what was found, the state with this mark.
+    /// False where the turn is refused.
+    pub(crate) fn try_turn(
         &self,
         alloc: Global,
         machine: &Machine<'s>,
         next: &mut Machine<'s>,
         from: u32,
         turn: &Turn,
+        mark: u32,
         found: &mut Found,
-    ) -> Result<(), Stop>
+    ) -> Result<bool, Stop>
         requires plan { IsPlan self.now }
         requires at { (all : List (List TheEvent)) × AreFound self.now all found.old ×
             IsAt self.now all from machine.now × IsAt self.now all from next.old }
@@ -116,10 +118,11 @@ impl<'s> Plan<'s> {
             AreFound self.now all found.old → IsAt self.now all from machine.now →
             IsAt self.now all from next.old → IsStopped self.now all stop found.new) }
     {
-        if self.try_next(alloc, machine, next, from, turn, 0, found)? {
+        let taken = self.try_next(alloc, machine, next, from, turn, mark, found)?;
+        if taken {
             next.renew(alloc, machine)?;
         }
-        Ok(())
+        Ok(taken)
     }
 
     /// Tries each of these turns from the state of this number, in which both machines stand. What
@@ -145,7 +148,7 @@ impl<'s> Plan<'s> {
             IsAt self.now all from next.old → IsStopped self.now all stop found.new) }
     {
         for place in 0..turns.len() {
-            self.try_turn(alloc, machine, next, from, &turns[place], found)?;
+            self.try_turn(alloc, machine, next, from, &turns[place], 0, found)?;
         }
         Ok(())
     }
@@ -179,7 +182,7 @@ impl<'s> Plan<'s> {
 
     /// Notes which expectations the state of this number, in which the machine stands, shows to
     /// fail where all is quiet there.
-    fn note_end(&self, machine: &Machine<'s>, from: u32, found: &mut Found)
+    pub(crate) fn note_end(&self, machine: &Machine<'s>, from: u32, found: &mut Found)
         requires plan { IsPlan self.now }
         requires at { (all : List (List TheEvent)) × AreFound self.now all found.old ×
             IsAt self.now all from machine.now }

@@ -55,6 +55,13 @@ impl Found {
         self.graph.push(number)?;
         Ok(())
     }
+
+    /// Forgets where states lead.
+    pub(crate) fn forget_leads(&mut self, alloc: Global)
+        ensures { self.new ≡ record self.old { graph = record { closed = []; opened = [] } } }
+    {
+        self.graph = Graph::new(alloc);
+    }
 }
 
 /// How a search ended.

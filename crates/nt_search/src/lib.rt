@@ -5,6 +5,7 @@ mod expanding;
 mod failures;
 mod flags;
 mod found;
+mod hunting;
 mod judging;
 mod machine;
 mod plan;
@@ -14,6 +15,7 @@ mod stop;
 
 pub use failures::Failure;
 pub use found::{End, Found, Searched};
+pub use hunting::{Hunted, hunt};
 pub use searching::search;
 pub use states::{Key, States, Way};
 pub use stop::Stop;

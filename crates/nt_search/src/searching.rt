@@ -29,7 +29,7 @@ use std::alloc::{AllocError, Global};
 
 impl<'s> Plan<'s> {
     /// The state of no event, alone.
-    fn start(&self, alloc: Global) -> Result<Found, AllocError>
+    pub(crate) fn start(&self, alloc: Global) -> Result<Found, AllocError>
         requires plan { IsPlan self.now }
         ensures { IfOk result (IsStart self.now) }
     {
@@ -44,7 +44,12 @@ impl<'s> Plan<'s> {
     }
 
     /// A machine in the state of this number.
-    fn machine_at(&self, alloc: Global, states: &States, number: u32) -> Result<Machine<'s>, Stop>
+    pub(crate) fn machine_at(
+        &self,
+        alloc: Global,
+        states: &States,
+        number: u32,
+    ) -> Result<Machine<'s>, Stop>
         requires plan { IsPlan self.now }
         requires number { number < length states.now.ways }
         requires ways { (all : List (List TheEvent)) ×

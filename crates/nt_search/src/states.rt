@@ -21,7 +21,7 @@ pub struct Key {
     pub shade: Shade,
     /// In the order in which they are watched for.
     pub came: Vec<bool>,
-    /// What a search tells apart besides; 0 where it tells nothing apart.
+    /// What a search tells apart besides: a hunt how it came to the state; otherwise 0.
     pub mark: u32,
 }
 
@@ -67,6 +67,14 @@ impl States {
         ensures { result ≡ length self.now.ways }
     {
         self.ways.len()
+    }
+
+    /// The mark of the state of this number; 0 where there is none.
+    pub(crate) fn mark_of(&self, number: u32) -> u32 {
+        match self.keys.get_index(number as usize) {
+            Some(key) => key.mark,
+            None => 0,
+        }
     }
 
     /// The number of the state with this key, if there is one.
