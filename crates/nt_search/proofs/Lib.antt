@@ -10,5 +10,6 @@ pub mod TryingMore
 pub mod Expanded
 pub mod Progress
 pub mod Ending
+pub mod GoingRound
 pub mod Verdict
 pub mod Hunts

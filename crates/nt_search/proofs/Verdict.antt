@@ -168,11 +168,18 @@ module _ (x : Plan) (f : Found) where
   none_stop : (a : Stop) → ◌≡◌ {A = Option Stop} None (Some a) → ⊥
   none_stop a q = cc
 
-  -- the ways, failures, round and cause of stopping that a search gives its caller are right
-  pub shown : (r : Expanded) (end : End) → OnOk r (IsSearched x f) → IfErr r (λ stop. IsStopped x [] stop f) → IsEndOf r f.graph end →
+  -- states are of what the expectations watch for where that is what is listed
+  states_of : x.watched.items ≡ flat_map watched_by x.expectations.now → (all : List (List Event)) → AreStates x.script.now x.watched.items all f.states →
+      AreStates x.script.now (flat_map watched_by x.expectations.now) all f.states
+  states_of watched all are = subst (λ (ws : List Watched). AreStates x.script.now ws all f.states) watched are
+
+  -- the states, failures, round and cause of stopping that a search gives its caller are right
+  pub shown : x.watched.items ≡ flat_map watched_by x.expectations.now → (r : Expanded) (end : End) → OnOk r (IsSearched x f) →
+      IfErr r (λ stop. IsStopped x [] stop f) → IsEndOf r f.graph end →
       IsShownIn x.script.now x.expectations.now x.limit x.most (record { found = f; end = end })
-  shown (Ok done) (Whole depths) searched stopped is = record {
+  shown watched (Ok done) (Whole depths) searched stopped is = record {
     all = searched.all;
+    states = states_of watched searched.all searched.found.states;
     ways = searched.found.states.ways;
     noted = searched.found.noted;
     round = goes depths is;
@@ -182,16 +189,18 @@ module _ (x : Plan) (f : Found) where
       goes : (depths : Depths) → AreDepthsOf f.graph.closed depths → GoesRound x.script.now searched.all (Whole depths)
       goes (Finite depths) is = tt
       goes (Round states) is = goes_round x f searched states.items is
-  shown (Ok done) (Stopped early) searched stopped is = record {
+  shown watched (Ok done) (Stopped early) searched stopped is = record {
     all = searched.all;
+    states = states_of watched searched.all searched.found.states;
     ways = searched.found.states.ways;
     noted = searched.found.noted;
     round = tt;
     cause = λ stop q. subst (HasCause x.limit x.most searched.all) (sym is ∙ given_stop early stop q) tt;
   }
-  shown (Err why) (Whole depths) searched stopped is = absurd is
-  shown (Err why) (Stopped early) searched stopped is = record {
+  shown watched (Err why) (Whole depths) searched stopped is = absurd is
+  shown watched (Err why) (Stopped early) searched stopped is = record {
     all = stopped.more;
+    states = states_of watched stopped.more stopped.states;
     ways = stopped.states.ways;
     noted = stopped.noted;
     round = tt;

@@ -8,3 +8,4 @@ pub mod Failures
 pub mod Ends
 pub mod Searches
 pub mod Hunts
+pub mod Rounding

@@ -160,10 +160,11 @@ GoesRound s all (Whole (Finite depths)) = Unit {0}
 GoesRound s all (Whole (Round states)) = AreRound s all states.items
 GoesRound s all (Stopped stop) = Unit {0}
 
--- What a caller gets: the ways lead to the histories of the states, the failures show in them, the states of a round
--- lead round, and where the search ended early it had a cause.
+-- What a caller gets: the states are those of these histories, to which the ways lead, the failures show in them, the
+-- states of a round lead round, and where the search ended early it had a cause.
 pub record IsShownIn (s : Script) (xs : List Expectation) (limit most : ℕ) (x : Searched) : Type 0 where
   pub all : List (List Event)
+  pub states : AreStates s (flat_map watched_by xs) all x.found.states
   pub ways : AreWays s all x.found.states.ways
   pub noted : AreNoted s all xs x.found.failures.items
   pub round : GoesRound s all x.end

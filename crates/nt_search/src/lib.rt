@@ -9,13 +9,17 @@ mod hunting;
 mod judging;
 mod machine;
 mod plan;
+mod rounding;
 mod searching;
 mod states;
 mod stop;
+#[cfg(test)]
+mod tests;
 
 pub use failures::Failure;
 pub use found::{End, Found, Searched};
 pub use hunting::{Hunted, hunt};
+pub use rounding::{rounds_are_endless, turns_round};
 pub use searching::search;
 pub use states::{Key, States, Way};
 pub use stop::Stop;

@@ -78,7 +78,7 @@ impl States {
     }
 
     /// The number of the state with this key, if there is one.
-    fn number_of(&self, key: &Key) -> Option<usize>
+    pub(crate) fn number_of(&self, key: &Key) -> Option<usize>
         ensures { result ≡ position (are_equal key.now) self.now.keys }
     {
         self.keys.get_index_of(key)

@@ -6,8 +6,8 @@ end_of-end-requires-clause-inside c = all_inside _ _ c.expand_all-expanded.resul
 
 pub returns-clause-shown : goal.returns-clause-shown
 returns-clause-shown c =
-    shown _ _ c.expand_all-expanded.result c.end_of-end.result c.expand_all-expanded.ensures.searched c.expand_all-expanded.ensures.stopped
-    c.end_of-end.ensures
+    shown _ _ c.in_ok-watch.ensures c.expand_all-expanded.result c.end_of-end.result c.expand_all-expanded.ensures.searched
+    c.expand_all-expanded.ensures.stopped c.end_of-end.ensures
 
 pub returns-clause-fails : goal.returns-clause-fails
 returns-clause-fails c = fails_known _ _ (known _ _ c.expand_all-expanded.result c.expand_all-expanded.ensures.searched c.expand_all-expanded.ensures.stopped)
