@@ -1,7 +1,7 @@
 -- Turns that lead once round.
 use Rattle.std.proofs.Common.{ap, arith, inl, inr, subst, sym, ◌∙◌}
 use Rattle.std.proofs.lemmas.List.{length-append}
-use Rattle.std.specs.Prelude.{Bool, Err, List, Ok, Result, Some, [], false, get_or, length, position, refl, true, ℕ, ◌++◌, ◌+◌, ◌<◌, ◌∷◌, ◌≡◌}
+use Rattle.std.specs.Prelude.{Bool, Err, List, Ok, Result, Some, [], false, get_or, length, refl, slice_get, true, ℕ, ◌++◌, ◌+◌, ◌<◌, ◌∷◌, ◌≡◌}
 use Rattle.nt_event.specs.declared.events.Event.{Event}
 use Rattle.nt_event.specs.declared.events.ScheduleKind.{ScheduleKind}
 use Rattle.nt_event.specs.declared.events.Turn.{Turn}
@@ -13,28 +13,32 @@ use Rattle.nt_alike.proofs.Relation.{alike_self}
 use Rattle.nt_verdict.specs.Closed.{GoesOn}
 use Rattle.nt_verdict.specs.Fails.{IsEndless}
 use Rattle.nt_verdict.proofs.Rounds.{rounds_fail}
+use Rattle.nt_shade.specs.declared.shade.Shade.{Shade}
+use Rattle.nt_shade.specs.Shade.{IsShadeOf}
 use Rattle.nt_search.specs.declared.machine.Machine.{Machine}
 use Rattle.nt_search.specs.declared.plan.Plan.{Plan}
 use Rattle.nt_search.specs.declared.states.Key.{Key}
-use Rattle.nt_search.specs.Keys.{IsKeyOf}
-use Rattle.nt_search.specs.Machines.{IsRefused, IsTaken}
+use Rattle.nt_search.specs.Keys.{AreNumbered}
+use Rattle.nt_search.specs.Machines.{IsRefused, IsTaken, Stands}
 use Rattle.nt_search.specs.Rounding.{AreOf, GoRound, HasGoneOn, HasTaken, IsAfter, RoundsAreEndless, TurnLeads}
 use Rattle.nt_search.specs.Searches.{IsPlan}
-use Rattle.nt_search.specs.States.{Seen, are_equal}
+use Rattle.nt_search.specs.States.{Seen}
 use Rattle.nt_search.specs.Tried.{IsLikeOne}
 use Rattle.nt_search.specs.Ways.{Lead}
 use Rattle.nt_search.proofs.Leading.{lead_length}
-use Rattle.nt_search.proofs.Listing.{found, numbered}
+use Rattle.nt_search.proofs.Keeping.{keyed}
+use Rattle.nt_search.proofs.Listing.{like_at}
 
 -- ---- one turn
 
--- a key that has this number tells that its history is like that of the state
-pub known : (x : Plan) → IsPlan x → (all : List (List Event)) (states : Seen) → AreOf x all states → (h : List Event) (key : Key) (number : ℕ) →
-    IsKeyOf x.script.now x.watched.items h key → position (are_equal key) states.keys ≡ Some number → IsLikeOne x.script.now x.watched.items all h number
-known x plan all states are h key number is at =
-    let there = numbered key states.keys number at in
-    subst (IsLikeOne x.script.now x.watched.items all h) (sym there.1)
-    (found x.script.now x.watched.items plan.fit h key all states.keys is are.keys there.0)
+-- a shade that is that of the state of this number, where the same came, tells that its history is like that of the state
+pub known : (x : Plan) → IsPlan x → (all : List (List Event)) (states : Seen) → AreOf x all states → (h : List Event) (n : Machine) (shade : Shade)
+    (number : ℕ) → Stands x.script.now x.limit x.watched.items h n → IsShadeOf x.script.now h shade →
+    ((key : Key) × (slice_get states.keys number ≡ Some key) × AreNumbered states.parts key shade n.came) →
+    IsLikeOne x.script.now x.watched.items all h number
+known x plan all states are h n shade number stands is at =
+    let key = keyed x.script.now x.watched.items h states.parts at.0 shade n.came stands.free is stands.came at.2 in
+    like_at x.script.now x.watched.items plan.fit h states.parts at.0 all states.keys number key are.keys at.1
 
 -- turns that lead to a history lead with one more to what it gives there
 pub lead_push : (s : Script) (turns : List Turn) (t : Turn) (past h : List Event) (e : Event) → Lead s turns past h → free_step s t h ≡ Ok e →

@@ -1,4 +1,6 @@
 pub mod Tried
+pub mod Keeping
+pub mod Stepping
 pub mod Listing
 pub mod Machines
 pub mod FlagsNoted

@@ -2,11 +2,13 @@
 use Rattle.std.proofs.Common.{ap, append-nil, arith, subst, sym, ◌∙◌}
 use Rattle.std.proofs.lemmas.List.{get_or-append-add, get_or_append_left, length-append}
 use Rattle.std.proofs.lemmas.Bool.{ltb-false, ltb-true}
+use Rattle.std.proofs.lemmas.Option.{none-some, same_Some}
+use Rattle.std.specs.Global.{Vec}
 use Rattle.std.specs.List.{list_any, position_or_len}
 use Rattle.std.proofs.lemmas.List.Quantifiers.{position-Some}
 use Rattle.std.proofs.lemmas.List.Sums.{position_or_len_is}
 use Rattle.std.specs.Prelude.{Bool, Err, IfErr, IfOk, IsTrue, List, Ok, OnOk, Result, Some, [], false, get_or, length}
-use Rattle.std.specs.Prelude.{nat_lt, position, refl, suc, true, zero, ℕ, ◌++◌, ◌+◌, ◌<◌, ◌∷◌}
+use Rattle.std.specs.Prelude.{nat_lt, position, refl, slice_get, suc, true, zero, ℕ, ◌++◌, ◌+◌, ◌<◌, ◌∷◌}
 use Rattle.std.specs.Prelude.{◌||◌, ◌≡◌}
 use Rattle.nt_event.specs.declared.events.Event.{Event}
 use Rattle.nt_event.specs.declared.scripts.Script.{Script}
@@ -18,16 +20,17 @@ use Rattle.nt_alike.proofs.Compared.{declared_alike}
 use Rattle.nt_alike.proofs.Relation.{alike_self}
 use Rattle.nt_expect.specs.declared.expectations.Watched.{Watched}
 use Rattle.nt_expect.specs.Meaning.{Came}
-use Rattle.nt_shade.proofs.EqualShades.{equal_say}
-use Rattle.nt_shade.proofs.Lists.{lists_same}
-use Rattle.nt_shade.proofs.SameParts.{flag_same}
+use Rattle.nt_history.proofs.Same.{nat_same}
 use Rattle.nt_shade.proofs.SameShades.{same_alike}
+use Rattle.nt_shade.specs.declared.shade.Shade.{Shade}
+use Rattle.nt_shade.specs.Same.{SayTheSame}
+use Rattle.nt_shade.specs.Shade.{IsShadeOf}
 use Rattle.nt_verdict.specs.Closed.{AlikeWatching, CameAlike}
 use Rattle.nt_search.proofs.Tried.{came_self}
 use Rattle.nt_search.specs.declared.states.Key.{Key}
 use Rattle.nt_search.specs.declared.states.Way.{Way}
 use Rattle.nt_shows.specs.Tells.{AreCame, Tells}
-use Rattle.nt_search.specs.Keys.{AreKeys, IsKeyOf}
+use Rattle.nt_search.specs.Keys.{AreKeys, IsKeyOf, SeenParts}
 use Rattle.nt_search.specs.States.{AreStates, Seen, are_equal, number_in, put}
 use Rattle.nt_search.specs.Tried.{IsLikeOne}
 use Rattle.nt_search.specs.Ways.{AreWays, LeadsTo}
@@ -57,15 +60,49 @@ came_alike (x ∷ watched) h k (flag ∷ flags) a b = (one flag a.0 b.0, came_al
     one true m n = (λ c. n, λ c. m)
     one false m n = (λ c. absurd (m c), λ c. absurd (n c))
 
+-- keys that are equal are the same
+equal_same : (x y : Key) → are_equal x y ≡ true → x ≡ y
+equal_same x y e =
+    let a = both _ _ e in
+    let b = both _ _ a.1 in
+    let c = both _ _ b.1 in
+    let d = both _ _ c.1 in
+    let f = both _ _ d.1 in
+    let dpcs = nat_same x.dpcs y.dpcs a.0 in
+    let counts = nat_same x.counts y.counts b.0 in
+    let threads = nat_same x.threads y.threads c.0 in
+    let cpus = nat_same x.cpus y.cpus d.0 in
+    let came = nat_same x.came y.came f.0 in
+    let marks = nat_same x.mark y.mark f.1 in
+    λ i. record { dpcs = dpcs i; counts = counts i; threads = threads i; cpus = cpus i; came = came i; mark = marks i }
+
+-- a shade says the same as itself
+says_itself : (x : Shade) → SayTheSame x x
+says_itself x = record {
+  dpcs = record { objects = refl; queues = refl; locks = refl; now = refl; keys = refl };
+  counts = refl;
+  threads = refl;
+  cpus = refl;
+}
+
 module _ (s : Script) (watched : List Watched) (fit : IsTrue (fits s)) where
-  -- histories whose keys are equal are alike
-  pub keys_alike : (h k : List Event) (x y : Key) → IsKeyOf s watched h x → IsKeyOf s watched k y → are_equal x y ≡ true → AlikeWatching s watched h k
-  keys_alike h k x y a b e =
-      let parts = both _ _ e in
-      let say = equal_say x.shade y.shade parts.0 in
-      let flags = lists_same flag_same x.came.items y.came.items (both _ _ parts.1).0 in
-      let alike = declared_alike s h k fit a.free b.free (same_alike s h k x.shade y.shade a.shade b.shade say) in
-      (alike, came_alike watched h k y.came.items (subst (AreCame watched h) flags a.came) b.came)
+  -- histories of one key are alike
+  keys_same : (h k : List Event) (parts : SeenParts) (x : Key) → IsKeyOf s watched h parts x → IsKeyOf s watched k parts x → AlikeWatching s watched h k
+  keys_same h k parts x a b =
+      let dpcs = same_Some a.kept.dpcs b.kept.dpcs (sym a.parts.dpcs ∙ b.parts.dpcs) in
+      let counts = same_Some a.kept.counts b.kept.counts (sym a.parts.counts ∙ b.parts.counts) in
+      let threads = same_Some a.kept.threads b.kept.threads (sym a.parts.threads ∙ b.parts.threads) in
+      let cpus = same_Some a.kept.cpus b.kept.cpus (sym a.parts.cpus ∙ b.parts.cpus) in
+      let came = same_Some a.flags b.flags (sym a.parts.came ∙ b.parts.came) in
+      let same : a.kept ≡ b.kept = λ i. record { dpcs = dpcs i; counts = counts i; threads = threads i; cpus = cpus i } in
+      let is = subst (IsShadeOf s h) same a.shade in
+      let alike = declared_alike s h k fit a.free b.free (same_alike s h k b.kept b.kept is b.shade (says_itself b.kept)) in
+      (alike, came_alike watched h k b.flags.items (subst (λ (v : Vec Bool). AreCame watched h v.items) came a.came) b.came)
+
+  -- and so are those whose keys are equal
+  pub keys_alike : (h k : List Event) (parts : SeenParts) (x y : Key) → IsKeyOf s watched h parts x → IsKeyOf s watched k parts y → are_equal x y ≡ true →
+      AlikeWatching s watched h k
+  keys_alike h k parts x y a b e = keys_same h k parts y (subst (IsKeyOf s watched h parts) (equal_same x y e) a) b
 
   -- a state of a list has the next number in the list with one more before it
   one_on : (k : List Event) (all : List (List Event)) (h : List Event) (n : ℕ) → IsLikeOne s watched all h n → IsLikeOne s watched (k ∷ all) h (1 + n)
@@ -75,34 +112,46 @@ module _ (s : Script) (watched : List Watched) (fit : IsTrue (fits s)) where
       record { low = omega (arith, low); alike = subst (λ (m : ℕ). AlikeWatching s watched h (get_or (k ∷ all) m [])) next r.alike }
 
   -- where a key is there, the history is like that of the first key that is equal
-  pub found : (h : List Event) (x : Key) (all : List (List Event)) (keys : List Key) → IsKeyOf s watched h x → AreKeys s watched all keys →
-      list_any (are_equal x) keys ≡ true → IsLikeOne s watched all h (position_or_len (are_equal x) keys)
-  found h x [] [] a are q = cc
-  found h x [] (y ∷ keys) a are q = absurd are
-  found h x (k ∷ all) [] a are q = absurd are
-  found h x (k ∷ all) (y ∷ keys) a are q = go (are_equal x y) refl (found h x all keys a are.1)
+  pub found : (h : List Event) (parts : SeenParts) (x : Key) (all : List (List Event)) (keys : List Key) → IsKeyOf s watched h parts x →
+      AreKeys s watched all parts keys → list_any (are_equal x) keys ≡ true → IsLikeOne s watched all h (position_or_len (are_equal x) keys)
+  found h parts x [] [] a are q = cc
+  found h parts x [] (y ∷ keys) a are q = absurd are
+  found h parts x (k ∷ all) [] a are q = absurd are
+  found h parts x (k ∷ all) (y ∷ keys) a are q = go (are_equal x y) refl (found h parts x all keys a are.1)
     where
       go : (b : Bool) → are_equal x y ≡ b → (list_any (are_equal x) keys ≡ true → IsLikeOne s watched all h (position_or_len (are_equal x) keys)) →
           IsLikeOne s watched (k ∷ all) h (position_or_len (are_equal x) (y ∷ keys))
-      go true e ih = rw e (record { low = omega arith; alike = keys_alike h k x y a are.0 e })
+      go true e ih = rw e (record { low = omega arith; alike = keys_alike h k parts x y a are.0 e })
       go false e ih =
           let rest = rw e at q in
           rw e (one_on k all h (position_or_len (are_equal x) keys) (ih rest))
 
   -- there are as many keys as histories
-  pub keys_count : (all : List (List Event)) (keys : List Key) → AreKeys s watched all keys → length keys ≡ length all
-  keys_count [] [] are = refl
-  keys_count [] (y ∷ keys) are = absurd are
-  keys_count (k ∷ all) [] are = absurd are
-  keys_count (k ∷ all) (y ∷ keys) are = ap suc (keys_count all keys are.1)
+  pub keys_count : (parts : SeenParts) (all : List (List Event)) (keys : List Key) → AreKeys s watched all parts keys → length keys ≡ length all
+  keys_count parts [] [] are = refl
+  keys_count parts [] (y ∷ keys) are = absurd are
+  keys_count parts (k ∷ all) [] are = absurd are
+  keys_count parts (k ∷ all) (y ∷ keys) are = ap suc (keys_count parts all keys are.1)
 
   -- one key more, of one history more
-  pub keys_more : (h : List Event) (x : Key) (all : List (List Event)) (keys : List Key) → IsKeyOf s watched h x → AreKeys s watched all keys →
-      AreKeys s watched (all ++ h ∷ []) (keys ++ x ∷ [])
-  keys_more h x [] [] a are = (a, tt)
-  keys_more h x [] (y ∷ keys) a are = absurd are
-  keys_more h x (k ∷ all) [] a are = absurd are
-  keys_more h x (k ∷ all) (y ∷ keys) a are = (are.0, keys_more h x all keys a are.1)
+  pub keys_more : (h : List Event) (parts : SeenParts) (x : Key) (all : List (List Event)) (keys : List Key) → IsKeyOf s watched h parts x →
+      AreKeys s watched all parts keys → AreKeys s watched (all ++ h ∷ []) parts (keys ++ x ∷ [])
+  keys_more h parts x [] [] a are = (a, tt)
+  keys_more h parts x [] (y ∷ keys) a are = absurd are
+  keys_more h parts x (k ∷ all) [] a are = absurd are
+  keys_more h parts x (k ∷ all) (y ∷ keys) a are = (are.0, keys_more h parts x all keys a are.1)
+
+  -- a history whose key is equal to that of a state is like that of the state
+  pub like_at : (h : List Event) (parts : SeenParts) (x : Key) (all : List (List Event)) (keys : List Key) (n : ℕ) → IsKeyOf s watched h parts x →
+      AreKeys s watched all parts keys → slice_get keys n ≡ Some x → IsLikeOne s watched all h n
+  like_at h parts x [] [] n a are q = absurd (none-some x q)
+  like_at h parts x [] (y ∷ keys) n a are q = absurd are
+  like_at h parts x (k ∷ all) [] n a are q = absurd are
+  like_at h parts x (k ∷ all) (y ∷ keys) zero a are q =
+      record { low = omega arith; alike = keys_same h k parts x a (subst (IsKeyOf s watched k parts) (same_Some y x q) are.0) }
+  like_at h parts x (k ∷ all) (y ∷ keys) (suc n) a are q =
+      let next : 1 + n ≡ suc n = omega arith in
+      subst (IsLikeOne s watched (k ∷ all) h) next (one_on k all h n (like_at h parts x all keys n a are.1 q))
 
 -- a key that is not there has the next number
 pub next_number : (x : Key) (keys : List Key) → list_any (are_equal x) keys ≡ false → position_or_len (are_equal x) keys ≡ length keys
@@ -229,7 +278,7 @@ pub record IsPut (s : Script) (watched : List Watched) (all : List (List Event))
   pub like : IsLikeOne s watched (all ++ more) h number
 
 module _ (s : Script) (watched : List Watched) (all : List (List Event)) (x : Seen) (h : List Event) (key : Key) (way : Way) (fit : IsTrue (fits s))
-    (are : AreStates s watched all x) (is : IsKeyOf s watched h key) where
+    (are : AreStates s watched all x) (is : IsKeyOf s watched h x.parts key) where
   -- a state that is put, with its way from an earlier one, is in the list under its number
   pub is_put : IsNewWay s all x.ways h way are.ways → IsPut s watched all h (number_in key x) (put key way x)
   is_put new = go (list_any (are_equal key) x.keys) refl
@@ -238,7 +287,7 @@ module _ (s : Script) (watched : List Watched) (all : List (List Event)) (x : Se
       itself = (alike_self s h, came_self watched h)
 
       number : list_any (are_equal key) x.keys ≡ false → length all ≡ number_in key x
-      number q = sym (next_number key x.keys q ∙ keys_count s watched fit all x.keys are.keys)
+      number q = sym (next_number key x.keys q ∙ keys_count s watched fit x.parts all x.keys are.keys)
 
       size : length (all ++ h ∷ []) ≡ length all + 1
       size = length-append all (h ∷ [])
@@ -254,12 +303,12 @@ module _ (s : Script) (watched : List Watched) (all : List (List Event)) (x : Se
         more = [];
         states = subst (λ (hs : List (List Event)). AreStates s watched hs x) (sym (append-nil all)) are;
         like = subst (λ (hs : List (List Event)). IsLikeOne s watched hs h (number_in key x)) (sym (append-nil all))
-            (found s watched fit h key all x.keys is are.keys q);
+            (found s watched fit h x.parts key all x.keys is are.keys q);
       })
       go false q = rw q (record {
         more = h ∷ [];
         states = record {
-          keys = keys_more s watched fit h key all x.keys is are.keys;
+          keys = keys_more s watched fit h x.parts key all x.keys is are.keys;
           ways = ways_more s all x.ways h way are.ways new;
         };
         like = subst (IsLikeOne s watched (all ++ h ∷ []) h) (number q) last;

@@ -15,7 +15,7 @@ use Rattle.nt_search.specs.declared.states.Key.{Key}
 use Rattle.nt_search.specs.declared.states.Way.{Way}
 use Rattle.nt_search.specs.Failures.{IsNoted}
 use Rattle.nt_search.specs.Keys.{IsKeyOf}
-use Rattle.nt_search.specs.States.{AreStates}
+use Rattle.nt_search.specs.States.{AreStates, Seen}
 use Rattle.nt_search.specs.Searches.{IsExpanded, IsSearched, IsSearchedTo, IsStart}
 use Rattle.nt_search.specs.Tried.{IsLed, IsTried, Keeps}
 use Rattle.nt_search.proofs.TryingMore.{led_more, like_more}
@@ -126,10 +126,10 @@ ended x f n h whole =
     subst (IsSearchedTo x f) same h
 
 -- the state of no event alone
-pub start : (x : Plan) (f : Found) (key : Key) (way : Way) → 1 ≤ x.most → f.states ≡ record { keys = key ∷ []; ways = way ∷ [] } →
-    f.graph ≡ record { closed = []; opened = [] } → IsKeyOf x.script.now x.watched.items [] key →
+pub start : (x : Plan) (f : Found) (y : Seen) (key : Key) (way : Way) → 1 ≤ x.most → f.states ≡ record y { keys = key ∷ []; ways = way ∷ [] } →
+    f.graph ≡ record { closed = []; opened = [] } → IsKeyOf x.script.now x.watched.items [] y.parts key →
     length f.failures.items ≡ length x.expectations.now → ((j : ℕ) → get_or f.failures.items j None ≡ None) → IsStart x f
-start x f key way most states graph is count none = record {
+start x f y key way most states graph is count none = record {
   found = record {
     states = subst (AreStates x.script.now x.watched.items ([] ∷ [])) (sym states) (record {
       keys = (is, tt);

@@ -83,7 +83,8 @@ module _ (x : Plan) (all : List (List Event)) (found : Found) (h : AreFound x al
   -- where it is taken, its event was judged and its state put to the others
   module _ (e : Event) (n : Machine) (is : IsTaken s x.limit x.watched.items t past e n) (f : Failure) (failures : List (Option Failure)) (key : Key)
       (way : Way) (plan : IsPlan x) (state : f.state ≡ from) (turn : f.turn ≡ Some t) (number : f.at ≡ length past)
-      (judged : AreJudged (λ y. ShowsAt s y e past) f x.expectations.now found.failures.items failures) (keyed : IsKeyOf s x.watched.items (e ∷ past) key)
+      (judged : AreJudged (λ y. ShowsAt s y e past) f x.expectations.now found.failures.items failures)
+      (keyed : IsKeyOf s x.watched.items (e ∷ past) found.states.parts key)
       (back : way.from ≡ from) (by : way.turn ≡ t) where
     shown : (more : List (List Event)) (y : Expectation) → ShowsAt s y e past → IsFailure s (all ++ more) y f
     shown more y shows =

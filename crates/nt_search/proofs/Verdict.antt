@@ -33,7 +33,7 @@ use Rattle.nt_search.specs.declared.states.Key.{Key}
 use Rattle.nt_search.specs.declared.stop.Stop.{Stop}
 use Rattle.nt_search.specs.Ends.{AreDepthsOf, IsEndOf, TellsOfEnds, is_whole}
 use Rattle.nt_search.specs.Failures.{AreNoted, EachUnnoted, FailsAt, IsNoted, ShowsBy}
-use Rattle.nt_search.specs.Keys.{AreKeys}
+use Rattle.nt_search.specs.Keys.{AreKeys, SeenParts}
 use Rattle.nt_search.specs.Searches.{GoesRound, HasCause, IsPlan, IsSearched, IsShownIn, IsStopped}
 use Rattle.nt_search.specs.States.{AreStates}
 use Rattle.nt_search.specs.Tried.{Keeps}
@@ -42,12 +42,12 @@ use Rattle.nt_search.proofs.Judged.{named_at}
 use Rattle.nt_search.proofs.Tried.{came_self, closed, each_among, each_at, kept}
 
 -- each of the histories is a free run
-free_at : (s : Script) (watched : List Watched) (all : List (List Event)) (keys : List Key) → AreKeys s watched all keys → (n : ℕ) → n < length all →
-    IsFreeRun s (get_or all n [])
-free_at s watched [] keys a n low = absurd (omega (arith, low))
-free_at s watched (h ∷ all) [] a n low = absurd a
-free_at s watched (h ∷ all) (k ∷ keys) a zero low = a.0.free
-free_at s watched (h ∷ all) (k ∷ keys) a (suc n) low = free_at s watched all keys a.1 n (omega (arith, low))
+free_at : (s : Script) (watched : List Watched) (all : List (List Event)) (parts : SeenParts) (keys : List Key) → AreKeys s watched all parts keys → (n : ℕ) →
+    n < length all → IsFreeRun s (get_or all n [])
+free_at s watched [] parts keys a n low = absurd (omega (arith, low))
+free_at s watched (h ∷ all) parts [] a n low = absurd a
+free_at s watched (h ∷ all) parts (k ∷ keys) a zero low = a.0.free
+free_at s watched (h ∷ all) parts (k ∷ keys) a (suc n) low = free_at s watched all parts keys a.1 n (omega (arith, low))
 
 -- a free run has short looks only
 short : (s : Script) (h : List Event) → IsFreeRun s h → LooksAreShort h
@@ -115,7 +115,7 @@ pub fails : (x : Plan) (all : List (List Event)) (f : Found) → AreStates x.scr
 fails x all f states noted j d g low is =
     let one : IsNoted x.script.now all (get_or x.expectations.now j d) (Some g) =
     subst (IsNoted x.script.now all (get_or x.expectations.now j d)) is (noted.each j d low) in
-    let run = free_at x.script.now x.watched.items all f.states.keys states.keys g.state one.state in
+    let run = free_at x.script.now x.watched.items all f.states.parts f.states.keys states.keys g.state one.state in
     subst (FailsAt x.script.now (get_or x.expectations.now j d)) (sym one.at)
     (shows_fail x.script.now (get_or x.expectations.now j d) (get_or all g.state []) g.turn run one.shows)
 

@@ -1,6 +1,7 @@
 pub mod Machines
 pub mod Keys
 pub mod Ways
+pub mod Steps
 pub mod States
 pub mod Leads
 pub mod Tried

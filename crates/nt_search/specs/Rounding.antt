@@ -13,8 +13,8 @@ use Rattle.nt_search.specs.States.{AreStates, Seen}
 use Rattle.nt_search.specs.Tried.{IsLikeOne}
 use Rattle.nt_search.specs.Ways.{Lead}
 
--- The turns lead to a history, and by so many events more to one that is like it, and no turn is left. Alike histories go
--- on alike: what was done once can be done again and again. All are no more events than a processor may make.
+-- The turns lead to a history, and the last of them, so many, once round: to one that is like it. Like histories go on
+-- alike, so what was done once can be done again and again. All together there are no more events than this limit.
 pub record GoRound (s : Script) (limit size : ℕ) (turns : List Turn) : Type 0 where
   pub before : List Event
   pub around : List Event

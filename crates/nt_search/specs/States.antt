@@ -9,11 +9,13 @@ use Rattle.nt_search.specs.declared.states.Key.{Key}
 use Rattle.nt_search.specs.declared.states.Way.{Way}
 use Rattle.nt_search.specs.declared.stop.Stop.{Stop}
 use Rattle.nt_search.specs.declared.stop.Stop.TheVariants.{NoMemory, States, Turns}
-use Rattle.nt_search.specs.Keys.{AreKeys}
+use Rattle.nt_search.specs.Keys.{AreKeys, HasMore, SeenParts}
 use Rattle.nt_search.specs.Ways.{AreWays}
 
--- what contracts see of the states: their keys, and how each was found, in the order in which they were
+-- what contracts see of the states: the parts that are kept, the keys of the states and how each was found, in the
+-- order in which they were
 pub record Seen : Type 0 where
+  pub parts : SeenParts
   pub keys : List Key
   pub ways : List Way
 
@@ -24,7 +26,13 @@ are_equal = (key_eq.ghosts).eq
 abbrev pub put : Key → Way → Seen → Seen
 put key way x =
     if list_any (are_equal key) x.keys then x
-    else record { keys = x.keys ++ key ∷ []; ways = x.ways ++ way ∷ [] }
+    else record x { keys = x.keys ++ key ∷ []; ways = x.ways ++ way ∷ [] }
+
+-- the same states, where parts may be more
+pub record HasGrown (old new : Seen) : Type 0 where
+  pub keys : new.keys ≡ old.keys
+  pub ways : new.ways ≡ old.ways
+  pub parts : HasMore old.parts new.parts
 
 -- the number of the state with this key: the first one that is equal, or else the next one
 abbrev pub number_in : Key → Seen → ℕ
@@ -38,5 +46,5 @@ IsPutStop most x NoMemory = Unit {0}
 
 -- the states are those of these histories
 pub record AreStates (s : Script) (watched : List Watched) (all : List (List Event)) (x : Seen) : Type 0 where
-  pub keys : AreKeys s watched all x.keys
+  pub keys : AreKeys s watched all x.parts x.keys
   pub ways : AreWays s all x.ways

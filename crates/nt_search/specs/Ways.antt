@@ -2,7 +2,6 @@
 pub use Rattle.nt_witness.specs.Leads.{Lead}
 use Rattle.std.specs.Prelude.{List, Ok, [], get_or, length, ℕ, ◌<◌, ◌∷◌, ◌≡◌}
 use Rattle.nt_event.specs.declared.events.Event.{Event}
-use Rattle.nt_event.specs.declared.events.Turn.{Turn}
 use Rattle.nt_event.specs.declared.scripts.Script.{Script}
 use Rattle.nt_alike.specs.Free.{free_step}
 use Rattle.nt_search.specs.declared.states.Way.{Way}

@@ -72,7 +72,7 @@ impl<'s> Plan<'s> {
         if !next.take(turn, self.watched.as_slice())? {
             return Ok(false);
         }
-        let key = next.key(alloc, mark)?;
+        let key = next.key(alloc, &mut found.states, mark)?;
         let failure = Failure {
             state: from,
             turn: Some(*turn),

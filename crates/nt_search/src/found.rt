@@ -24,16 +24,24 @@ pub struct Found {
 
 impl Found {
     /// What is found at first: the state of no event alone, with this key, and no failure of any of
-    /// so many expectations.
-    pub(crate) fn new(alloc: Global, key: Key, way: Way, count: usize) -> Result<Found, AllocError>
+    /// so many expectations. The states have no state yet but its parts.
+    pub(crate) fn new(
+        alloc: Global,
+        mut states: States,
+        key: Key,
+        way: Way,
+        count: usize,
+    ) -> Result<Found, AllocError>
+        requires keys { states.keys ≡ [] }
+        requires ways { states.ways ≡ [] }
         ensures states { IfOk result
-            (λ f. f.states ≡ record { keys = key ∷ []; ways = way ∷ [] }) }
+            (λ f. f.states ≡ record states { keys = key ∷ []; ways = way ∷ [] }) }
         ensures graph { IfOk result (λ f. f.graph ≡ record { closed = []; opened = [] }) }
         ensures count { IfOk result (λ f. length f.failures.items ≡ count) }
         ensures none { IfOk result (λ f. (j : ℕ) → get_or f.failures.items j None ≡ None) }
     {
         let failures = no_failures(alloc, count)?;
-        let states = States::new(alloc, key, way)?;
+        states.add(key, way)?;
         Ok(Found {
             states,
             graph: Graph::new(alloc),

@@ -8,6 +8,7 @@ mod found;
 mod hunting;
 mod judging;
 mod machine;
+mod parts;
 mod plan;
 mod rounding;
 mod searching;
@@ -15,11 +16,12 @@ mod states;
 mod stop;
 #[cfg(test)]
 mod tests;
+mod ways;
 
 pub use failures::Failure;
 pub use found::{End, Found, Searched};
 pub use hunting::{Hunted, hunt};
 pub use rounding::{rounds_are_endless, turns_round};
 pub use searching::search;
-pub use states::{Key, States, Way};
+pub use states::{States, Way};
 pub use stop::Stop;

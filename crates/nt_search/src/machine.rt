@@ -9,14 +9,16 @@ ghost use Rattle.nt_event.specs.Script.{fits, has_cpu};
 ghost use Rattle.nt_event.specs.Step.{cpu_at};
 ghost use Rattle.nt_alike.specs.Free.{LookIsShort};
 ghost use Rattle.nt_expect.specs.declared.expectations.Watched.{Watched as TheWatched};
+ghost use Rattle.nt_shade.specs.Shade.{IsShadeOf};
 ghost use Rattle.nt_shade_asks.specs.Follows.{IsAsked, IsOf};
 ghost use Rattle.nt_shade_dpcs.specs.Shade.{IsShade, due_again};
 ghost use Rattle.nt_shows.specs.Tells.{AreCame};
 ghost use Rattle.nt_search.specs.Keys.{IsKeyOf};
+ghost use Rattle.nt_search.specs.States.{HasGrown};
 ghost use Rattle.nt_search.specs.Machines.{IsRefused, IsTaken, IsUncut, Stands};
 
 use crate::flags::note;
-use crate::states::Key;
+use crate::states::{Key, States};
 use nt_cpu::{Cpu, no_event};
 use nt_cpus::Processors;
 use nt_event::limits::{EVENTS, TURNS};
@@ -24,7 +26,7 @@ use nt_event::{CpuNo, Event, Script, Turn, What, class};
 use nt_expect::Watched;
 use nt_frame::StandView;
 use nt_plain::PlainFloor;
-use nt_shade::{shade_of, unnoticed_of};
+use nt_shade::{Shade, shade_of, unnoticed_of};
 use nt_shade_asks::Unnoticed;
 use nt_shade_dpcs::ShadeDpcs;
 use std::alloc::{AllocError, Global};
@@ -218,17 +220,37 @@ impl<'s> Machine<'s> {
         Ok(unnoticed)
     }
 
-    /// What tells the state apart in which it stands, with this mark.
-    pub(crate) fn key(&self, alloc: Global, mark: u32) -> Result<Key, AllocError>
+    /// The shade of the history after which it stands.
+    pub(crate) fn shade(&self, alloc: Global) -> Result<Shade, AllocError>
         requires { (s : TheScript) × (limit : ℕ) × (watched : List TheWatched) ×
             (past : List TheEvent) × Stands s limit watched past self.now }
-        ensures { IfOk result (λ key.
+        ensures { IfOk result (λ x.
             (s : TheScript) (limit : ℕ) (watched : List TheWatched) (past : List TheEvent) →
-            Stands s limit watched past self.now → IsKeyOf s watched past key) }
+            Stands s limit watched past self.now → IsShadeOf s past x) }
     {
         let unnoticed = self.unnoticed(alloc)?;
         let shade = shade_of(alloc, &self.processors, &self.floor, &self.dpcs, &unnoticed)?;
+        Ok(shade)
+    }
+
+    /// The key of the state in which it stands, with this mark. The states keep its parts; after an
+    /// error some of them.
+    pub(crate) fn key(
+        &self,
+        alloc: Global,
+        states: &mut States,
+        mark: u32,
+    ) -> Result<Key, AllocError>
+        requires { (s : TheScript) × (limit : ℕ) × (watched : List TheWatched) ×
+            (past : List TheEvent) × Stands s limit watched past self.now }
+        ensures grown { HasGrown states.old states.new }
+        ensures key { IfOk result (λ key.
+            (s : TheScript) (limit : ℕ) (watched : List TheWatched) (past : List TheEvent) →
+            Stands s limit watched past self.now →
+            IsKeyOf s watched past states.new.parts key) }
+    {
         let came = self.came.to_vec(alloc)?;
-        Ok(Key { shade, came, mark })
+        let shade = self.shade(alloc)?;
+        states.number(shade, came, mark)
     }
 }

@@ -5,7 +5,7 @@
 //! the first turn that leads to the next one.
 ghost use Rattle.std.specs.List.{flat_map};
 ghost use Rattle.std.specs.Prelude.{◌≡◌, ◌≤◌, ◌<◌, ◌+◌, ◌*◌, [], IfOk, IfSome, IsTrue, List};
-ghost use Rattle.std.specs.Prelude.{Some, get_or, length, position, true};
+ghost use Rattle.std.specs.Prelude.{get_or, length, true};
 ghost use Rattle.nt_event.specs.declared.events.Event.{Event as TheEvent};
 ghost use Rattle.nt_event.specs.Script.{fits};
 ghost use Rattle.nt_expect.specs.Expectations.{expectations_fit};
@@ -13,12 +13,12 @@ ghost use Rattle.nt_verdict.specs.Closed.{watched_by};
 ghost use Rattle.nt_search.specs.Rounding.{AreOf, GoRound, HasGoneOn, HasTaken, IsAfter};
 ghost use Rattle.nt_search.specs.Rounding.{RoundsAreEndless, TurnLeads};
 ghost use Rattle.nt_search.specs.Searches.{AreRound, IsPlan};
-ghost use Rattle.nt_search.specs.States.{AreStates, are_equal};
+ghost use Rattle.nt_search.specs.States.{AreStates};
 ghost use Rattle.nt_search.specs.Ways.{Lead};
 
 use crate::machine::Machine;
 use crate::plan::Plan;
-use crate::states::{Key, States};
+use crate::states::States;
 use crate::stop::Stop;
 use nt_ahead::turns_ahead;
 use nt_event::limits::{EVENTS, TURNS};
@@ -37,16 +37,6 @@ fn state_after(round: &[u32], place: usize) -> u32
         round[place + 1]
     } else {
         round[0]
-    }
-}
-
-/// Whether the state with this key has this number.
-fn has_number(states: &States, key: &Key, number: u32) -> bool
-    ensures { IsTrue result → position (are_equal key.now) states.now.keys ≡ Some number }
-{
-    match states.number_of(key) {
-        Some(place) => place == number as usize,
-        None => false,
     }
 }
 
@@ -69,8 +59,8 @@ impl<'s> Plan<'s> {
         if !next.take(turn, self.watched.as_slice())? {
             return Ok(false);
         }
-        let key = next.key(alloc, 0)?;
-        let comes = has_number(states, &key, number);
+        let shade = next.shade(alloc)?;
+        let comes = states.is_of(number, &shade, &next.came);
         Ok(comes)
     }
 

@@ -34,12 +34,13 @@ impl<'s> Plan<'s> {
         ensures { IfOk result (IsStart self.now) }
     {
         let machine = Machine::new(alloc, self.script, self.limit, self.watched.as_slice())?;
-        let key = machine.key(alloc, 0)?;
+        let mut states = States::new(alloc);
+        let key = machine.key(alloc, &mut states, 0)?;
         let way = Way {
             from: 0,
             turn: Turn::Next(CpuNo(0)),
         };
-        let found = Found::new(alloc, key, way, self.expectations.len())?;
+        let found = Found::new(alloc, states, key, way, self.expectations.len())?;
         Ok(found)
     }
 

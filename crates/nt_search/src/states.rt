@@ -1,28 +1,35 @@
 //! The states that were found, each by what tells it apart.
 ghost use Rattle.std.specs.Prelude.{◌≡◌, ◌<◌, ◌≤◌, ◌∷◌, ◌++◌, [], IfErr, IfOk, List, OnErr, OnOk};
-ghost use Rattle.std.specs.Prelude.{false, get_or, length, position};
+ghost use Rattle.std.specs.Prelude.{IsTrue, Some, false, get_or, length, position, slice_get};
 ghost use Rattle.std.specs.List.{list_any};
 ghost use Rattle.nt_event.specs.declared.events.Event.{Event as TheEvent};
 ghost use Rattle.nt_event.specs.declared.scripts.Script.{Script as TheScript};
-ghost use Rattle.nt_search.specs.States.{IsPutStop, are_equal, number_in, put as put_in};
+ghost use Rattle.nt_search.specs.declared.states.Key.{Key as TheKey};
+ghost use Rattle.nt_search.specs.Keys.{AreNumbered};
+ghost use Rattle.nt_search.specs.States.{HasGrown, IsPutStop, are_equal, number_in, put as put_in};
 ghost use Rattle.nt_search.specs.Ways.{AreWays, Lead};
 
+use crate::parts::Parts;
 use crate::stop::Stop;
+use crate::ways::Ways;
 use indexmap::IndexSet;
 use nt_event::Turn;
 use nt_shade::Shade;
 use std::alloc::{AllocError, Global};
 use std::marker::Model;
 
-/// What tells a state apart: the shade of its histories, and which of the events that are watched
-/// for came.
-#[derive(PartialEq, Eq, Hash, Drop, Debug)]
-pub struct Key {
-    pub shade: Shade,
-    /// In the order in which they are watched for.
-    pub came: Vec<bool>,
+/// What tells a state apart: the numbers of the parts of the shade of its histories, and that of
+/// the flags that tell which of the events that are watched for came.
+#[derive(Clone, Copy, PartialEq, Eq, Hash, Debug)]
+pub(crate) struct Key {
+    pub(crate) dpcs: u32,
+    pub(crate) counts: u32,
+    pub(crate) threads: u32,
+    pub(crate) cpus: u32,
+    /// That of the flags, in the order in which the events are watched for.
+    pub(crate) came: u32,
     /// What a search tells apart besides: a hunt how it came to the state; otherwise 0.
-    pub mark: u32,
+    pub(crate) mark: u32,
 }
 
 /// How a state was found first.
@@ -38,8 +45,9 @@ pub struct Way {
 /// event; its way means nothing.
 #[derive(Drop)]
 pub struct States {
+    parts: Parts,
     keys: IndexSet<Key>,
-    ways: Vec<Way>,
+    ways: Ways,
 }
 
 impl Model for States {
@@ -47,19 +55,45 @@ impl Model for States {
 
     ghost Value = { Seen };
 
-    ghost view = { λ a. record { keys = a.keys.keys; ways = a.ways.items } };
+    ghost view = { λ a. record { parts = a.parts; keys = a.keys.keys; ways = a.ways } };
 }
 
 impl States {
-    /// The state of no event alone, with this key.
-    pub(crate) fn new(alloc: Global, key: Key, way: Way) -> Result<States, AllocError>
-        ensures { IfOk result (λ x. x ≡ record { keys = key ∷ []; ways = way ∷ [] }) }
+    /// No states.
+    pub(crate) fn new(alloc: Global) -> States
+        ensures keys { result.keys ≡ [] }
+        ensures ways { result.ways ≡ [] }
     {
-        let mut keys = IndexSet::new(alloc);
-        keys.insert(key)?;
-        let mut ways = Vec::new(alloc);
-        ways.push(way)?;
-        Ok(States { keys, ways })
+        States {
+            parts: Parts::new(alloc),
+            keys: IndexSet::new(alloc),
+            ways: Ways::new(alloc),
+        }
+    }
+
+    /// The key of the state with this shade, where this came, and this mark, be it among the states
+    /// or not. Parts that are new are kept; after an error some of them may be.
+    pub(crate) fn number(
+        &mut self,
+        shade: Shade,
+        came: Vec<bool>,
+        mark: u32,
+    ) -> Result<Key, AllocError>
+        ensures grown { HasGrown self.old self.new }
+        ensures numbered { IfOk result (λ key. AreNumbered self.new.parts key shade came) }
+    {
+        self.parts.number(shade, came, mark)
+    }
+
+    /// Whether the state of this number is one with this shade, where this came.
+    pub(crate) fn is_of(&self, number: u32, shade: &Shade, came: &Vec<bool>) -> bool
+        ensures { IsTrue result → (key : TheKey) × (slice_get self.now.keys number ≡ Some key) ×
+            AreNumbered self.now.parts key shade.now came.now }
+    {
+        match self.keys.get_index(number as usize) {
+            Some(key) => self.parts.are_of(key, shade, came),
+            None => false,
+        }
     }
 
     /// How many there are.
@@ -86,15 +120,15 @@ impl States {
 
     /// Adds a state with this key, to which the way leads. After an error the states are as they
     /// were.
-    fn add(&mut self, key: Key, way: Way) -> Result<(), AllocError>
+    pub(crate) fn add(&mut self, key: Key, way: Way) -> Result<(), AllocError>
         requires { list_any (are_equal key) self.old.keys ≡ false }
-        ensures added { OnOk result (self.new
-            ≡ record { keys = self.old.keys ++ key ∷ []; ways = self.old.ways ++ way ∷ [] }) }
+        ensures added { OnOk result (self.new ≡ record self.old
+            { keys = self.old.keys ++ key ∷ []; ways = self.old.ways ++ way ∷ [] }) }
         ensures err { OnErr result (self.new ≡ self.old) }
     {
-        self.ways.reserve(1)?;
-        self.keys.insert(key)?;
+        self.keys.reserve(1)?;
         self.ways.push(way)?;
+        self.keys.insert(key)?;
         Ok(())
     }
 
@@ -102,8 +136,8 @@ impl States {
     fn add_within(&mut self, key: Key, way: Way, most: u32) -> Result<u32, Stop>
         requires new { list_any (are_equal key) self.old.keys ≡ false }
         requires few { length self.old.ways ≤ most }
-        ensures added { OnOk result (self.new
-            ≡ record { keys = self.old.keys ++ key ∷ []; ways = self.old.ways ++ way ∷ [] }) }
+        ensures added { OnOk result (self.new ≡ record self.old
+            { keys = self.old.keys ++ key ∷ []; ways = self.old.ways ++ way ∷ [] }) }
         ensures number { IfOk result (λ n. n ≡ length self.old.ways) }
         ensures within { OnOk result (length self.old.ways < most) }
         ensures err { OnErr result (self.new ≡ self.old) }
@@ -145,7 +179,7 @@ impl States {
         let mut turns = Vec::new(alloc);
         let mut at = number;
         while 0 < at {
-            let way = &self.ways[at as usize];
+            let way = self.ways.get(at);
             turns.push(way.turn)?;
             at = way.from;
         }

@@ -9,7 +9,8 @@ ghost use Rattle.nt_search.specs.Machines.{Stands};
 ghost use Rattle.nt_search.specs.Searches.{IsShownIn};
 
 use crate::machine::Machine;
-use crate::{End, Key, Searched, search, turns_round};
+use crate::states::Key;
+use crate::{End, Searched, States, search, turns_round};
 use nt_event::{
     Command, CpuNo, DpcDecl, DpcNo, Items, Routine, RoutineNo, Script, ThreadDecl, Turn,
 };
@@ -69,23 +70,26 @@ fn round_of(
     requires fits { IsTrue (fits script.now) }
     requires cpus { script.now.cpus ≡ 1 }
     requires limit { (1 ≤ limit) × (limit ≤ 100) }
-    requires shown { (least : ℕ) × (most : ℕ) ×
-        IsShownIn script.now (AlwaysEnds ∷ []) least most searched.now }
+    requires shown { (turns : ℕ) × (most : ℕ) ×
+        IsShownIn script.now (AlwaysEnds ∷ []) turns most searched.now }
 {
+    let states = &searched.found.states;
     match &searched.end {
-        End::Whole(Depths::Round(round)) => {
-            let states = &searched.found.states;
-            let expectations = [Expectation::AlwaysEnds];
-            turns_round(
-                alloc,
-                script,
-                &expectations,
-                limit,
-                states,
-                round.as_slice(),
-            )
-        }
-        End::Whole(Depths::Finite(_)) | End::Stopped(_) => Ok(None),
+        End::Whole(depths) => match depths {
+            Depths::Round(round) => {
+                let expectations = [Expectation::AlwaysEnds];
+                turns_round(
+                    alloc,
+                    script,
+                    &expectations,
+                    limit,
+                    states,
+                    round.as_slice(),
+                )
+            }
+            Depths::Finite(_) => Ok(None),
+        },
+        End::Stopped(_) => Ok(None),
     }
 }
 
@@ -111,15 +115,20 @@ fn take_all(
     Ok(true)
 }
 
-/// Whether a new machine takes the turns, and its key then.
-fn key_after(alloc: Global, script: &Script, turns: &[Turn]) -> Result<(bool, Key), AllocError>
+/// Whether a new machine takes the turns, and its key then. The states keep its parts.
+fn key_after(
+    alloc: Global,
+    script: &Script,
+    turns: &[Turn],
+    states: &mut States,
+) -> Result<(bool, Key), AllocError>
     requires fits { IsTrue (fits script.now) }
     requires cpus { script.now.cpus ≡ 1 }
 {
     let watched: [Watched; 0] = [];
     let mut machine = Machine::new(alloc, script, 100, &watched)?;
     let taken = take_all(script, &mut machine, turns, &watched)?;
-    let key = machine.key(alloc, 0)?;
+    let key = machine.key(alloc, states, 0)?;
     Ok((taken, key))
 }
 
@@ -133,8 +142,9 @@ fn come_back(
     requires fits { IsTrue (fits script.now) }
     requires cpus { script.now.cpus ≡ 1 }
 {
-    let before = key_after(alloc, script, first)?;
-    let after = key_after(alloc, script, turns)?;
+    let mut states = States::new(alloc);
+    let before = key_after(alloc, script, first, &mut states)?;
+    let after = key_after(alloc, script, turns, &mut states)?;
     Ok(before.0 && after.0 && before.1 == after.1)
 }
 

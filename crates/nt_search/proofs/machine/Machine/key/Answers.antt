@@ -1,28 +1,15 @@
 use Rattle.std.proofs.Common.{rules, subst, sym, ◌≡◌}
-use Rattle.nt_event.specs.declared.scripts.Script.{Script}
-use Rattle.nt_shade.specs.Shade.{IsShadeOf}
-use Rattle.nt_shade_asks.specs.Follows.{IsOf}
 use Rattle.nt_shows.specs.Tells.{AreCame}
-use Rattle.nt_search.proofs.Machines.{of_script, stand_after}
+use Rattle.nt_search.proofs.Keeping.{keyed}
+use Rattle.nt_search.proofs.Listing.{if_ok}
 use Rattle.nt_search.proofs.machine.Machine.key.Goals as goal
 
-pub shade_of-requires : goal.shade_of-requires
-shade_of-requires c =
+pub returns-clause-key : goal.returns-clause-key
+returns-clause-key c =
     let m = c.args.self.now in
-    let u = c.in_ok-unnoticed.unnoticed in
-    let h = c.requires in
-    let of = of_script h.0 h.1 h.2 h.3 m (λ z. IsOf z u) h.4 c.in_ok-unnoticed.ensures.of in
-    (h.3, stand_after h.0 h.1 h.2 h.3 m u h.4 of (c.in_ok-unnoticed.ensures.asked h.0 h.1 h.2 h.3 h.4))
-
-pub returns : goal.returns
-returns c s limit watched past h =
-    let m = c.args.self.now in
-    let u = c.in_ok-unnoticed.unnoticed in
-    let of = of_script s limit watched past m (λ z. IsOf z u) h c.in_ok-unnoticed.ensures.of in
-    let stand = stand_after s limit watched past m u h of (c.in_ok-unnoticed.ensures.asked s limit watched past h) in
     let came : c.in_ok-came.came.items ≡ m.came.items = search rules in
-    record {
-      free = h.free;
-      shade = subst (λ (z : Script). IsShadeOf z past c.in_ok-shade.shade) h.of (c.in_ok-shade.ensures past stand);
-      came = subst (AreCame watched past) (sym came) h.came;
-    }
+    if_ok c.number.result
+    (λ key numbered s limit watched past h.
+    keyed s watched past c.number.new.self.parts key c.in_ok-shade.shade c.in_ok-came.came h.free
+    (c.in_ok-shade.ensures s limit watched past h) (subst (AreCame watched past) (sym came) h.came) numbered)
+    c.number.ensures.numbered

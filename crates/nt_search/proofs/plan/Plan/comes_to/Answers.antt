@@ -12,8 +12,8 @@ take-requires c =
     let after = c.requires.after.1 in
     uncut x.script.now x.limit x.watched.items _ _ c.args.next.now after.stands after.short c.as_slice.ensures.value
 
-pub key-requires : goal.key-requires
-key-requires c =
+pub shade-requires : goal.shade-requires
+shade-requires c =
     let x = c.args.self.now in
     let s = x.script.now in
     let past = c.requires.after.0 in
@@ -36,9 +36,10 @@ returns c comes all past are after =
     let q : c.in_ok-take.field-0 ≡ true = cc in
     let old = subst (λ (w : List Watched). Stands s x.limit w past c.args.next.now) (sym e) after.stands in
     let taken = subst (λ (w : List Watched). IsTaken s x.limit w t past n.event n) e (c.in_ok-take.ensures.taken q s x.limit past old after.short) in
-    let keyed = c.in_ok-key.ensures s x.limit x.watched.items (n.event ∷ past) taken.stands in
+    let shade = c.in_ok-shade.ensures s x.limit x.watched.items (n.event ∷ past) taken.stands in
     record {
       event = n.event;
       gives = taken.gives;
-      like = known x c.requires.plan all c.args.states.now are (n.event ∷ past) c.in_ok-key.key c.args.number keyed (c.has_number-comes.ensures comes);
+      like = known x c.requires.plan all c.args.states.now are (n.event ∷ past) n c.in_ok-shade.shade c.args.number taken.stands shade
+          (c.is_of-comes.ensures comes);
     }

@@ -9,6 +9,6 @@ returns c =
     let x = c.args.self.now in
     let s = x.script.now in
     let stands = subst (λ (w : List Watched). Stands s x.limit w [] c.in_ok-machine.machine) c.as_slice.ensures.value c.in_ok-machine.ensures in
-    let keyed = c.in_ok-key.ensures s x.limit x.watched.items [] stands in
+    let keyed = c.in_ok-key.ensures.key s x.limit x.watched.items [] stands in
     let new = c.in_ok-found.ensures in
-    start x _ c.in_ok-key.key _ c.requires.plan.most new.states new.graph keyed new.count new.none
+    start x _ c.key.new.states c.in_ok-key.key _ c.requires.plan.most new.states new.graph keyed new.count new.none

@@ -6,6 +6,7 @@ use Rattle.std.proofs.lemmas.Result.{err_from_is_err_and}
 use Rattle.nt_search.specs.declared.stop.Stop.{Stop}
 use Rattle.nt_search.specs.Searches.{IsStopped}
 use Rattle.nt_search.proofs.Leading.{uncut}
+use Rattle.nt_search.proofs.Keeping.{found_grown, tried_grown}
 use Rattle.nt_search.proofs.Listing.{if_err, keys_count}
 use Rattle.nt_search.proofs.Machines.{came_length}
 use Rattle.nt_search.proofs.Trying.{none_tried, stopped, tried}
@@ -65,8 +66,9 @@ returns-then-not-branch-clause-refused c r all next =
 pub lead-requires-clause-count : goal.lead-requires-clause-count
 lead-requires-clause-count c =
     let x = c.args.self.now in
-    let h = c.requires.at.1 in
-    keys_count x.script.now x.watched.items c.requires.plan.fit c.requires.at.0 c.args.found.now.states.keys h.states.keys ∙ sym h.states.ways.count
+    let y = c.key.new.states in
+    let h = found_grown x c.requires.at.0 c.args.found.now y c.requires.at.1 c.in_ok-key.ensures.grown in
+    keys_count x.script.now x.watched.items c.requires.plan.fit y.parts c.requires.at.0 y.keys h.states.keys ∙ sym h.states.ways.count
 
 pub returns-in_err-take-clause-stopped : goal.returns-in_err-take-clause-stopped
 returns-in_err-take-clause-stopped c =
@@ -77,8 +79,10 @@ returns-in_err-take-clause-stopped c =
 pub returns-in_err-key-clause-stopped : goal.returns-in_err-key-clause-stopped
 returns-in_err-key-clause-stopped c =
     let e = err_from_is_err_and c.from_residual-in_err-key.result c.from_residual-in_err-key.ensures.1 in
+    let y = c.key.new.states in
     if_err _ c.from_residual-in_err-key.result e.0 e.1
-    (λ all h at next. subst (λ (stop : Stop). IsStopped c.args.self.now all stop c.args.found.now) (sym e.2) (starved c.args.self.now all c.args.found.now h))
+    (λ all h at next. subst (λ (stop : Stop). IsStopped c.args.self.now all stop (record c.args.found.now { states = y })) (sym e.2)
+    (starved c.args.self.now all _ (found_grown c.args.self.now all c.args.found.now y h c.in_err-key.ensures.grown)))
 
 pub returns-in_err-lead-clause-stopped : goal.returns-in_err-lead-clause-stopped
 returns-in_err-lead-clause-stopped c =
@@ -98,10 +102,12 @@ returns-in_err-lead-clause-stopped c =
     let before = subst (λ (w : List Watched). Stands s x.limit w past c.args.machine.now) c.requires.plan.watched at.stands in
     let after = subst (λ (w : List Watched). Stands s x.limit w (n.event ∷ past) n) c.requires.plan.watched taken.stands in
     let judged = c.judge_event.ensures.judged s x.limit past before after in
-    let keyed = c.in_ok-key.ensures s x.limit x.watched.items (n.event ∷ past) taken.stands in
+    let keyed = c.in_ok-key.ensures.key s x.limit x.watched.items (n.event ∷ past) taken.stands in
+    let y = c.key.new.states in
+    let g = found_grown x all c.args.found.now y h c.in_ok-key.ensures.grown in
     subst (λ (stop : Stop). IsStopped x all stop c.lead.new.self) (sym r.2)
-    (stopped x all c.args.found.now h c.args.from c.args.machine.now at t n.event n taken _ c.judge_event.new.failures.items c.in_ok-key.key _ c.requires.plan
-    refl refl at.stands.took judged keyed refl refl _ c.lead.new.self _ refl refl c.in_err-lead.ensures.err))
+    (stopped x all (record c.args.found.now { states = y }) g c.args.from c.args.machine.now at t n.event n taken _ c.judge_event.new.failures.items
+    c.in_ok-key.key _ c.requires.plan refl refl at.stands.took judged keyed refl refl _ c.lead.new.self _ refl refl c.in_err-lead.ensures.err))
 
 pub returns-clause-tried : goal.returns-clause-tried
 returns-clause-tried c all h at next =
@@ -118,6 +124,10 @@ returns-clause-tried c all h at next =
     let before = subst (λ (w : List Watched). Stands s x.limit w past c.args.machine.now) c.requires.plan.watched at.stands in
     let after = subst (λ (w : List Watched). Stands s x.limit w (n.event ∷ past) n) c.requires.plan.watched taken.stands in
     let judged = c.judge_event.ensures.judged s x.limit past before after in
-    let keyed = c.in_ok-key.ensures s x.limit x.watched.items (n.event ∷ past) taken.stands in
-    tried x all c.args.found.now h c.args.from c.args.machine.now at t n.event n taken _ c.judge_event.new.failures.items c.in_ok-key.key _ c.requires.plan
-    refl refl at.stands.took judged keyed refl refl _ c.lead.new.self refl refl refl c.in_ok-lead.ensures.led c.in_ok-lead.ensures.few
+    let keyed = c.in_ok-key.ensures.key s x.limit x.watched.items (n.event ∷ past) taken.stands in
+    let y = c.key.new.states in
+    let g = found_grown x all c.args.found.now y h c.in_ok-key.ensures.grown in
+    tried_grown x all past (t ∷ []) c.args.found.now c.lead.new.self y
+    (tried x all (record c.args.found.now { states = y }) g c.args.from c.args.machine.now at t n.event n taken _ c.judge_event.new.failures.items
+    c.in_ok-key.key _ c.requires.plan refl refl at.stands.took judged keyed refl refl _ c.lead.new.self refl refl refl c.in_ok-lead.ensures.led
+    c.in_ok-lead.ensures.few)

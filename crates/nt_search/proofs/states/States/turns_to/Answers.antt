@@ -16,22 +16,22 @@ loop-at-init c = record {
 
 pub loop-at-smaller : goal.loop-at-smaller
 loop-at-smaller c =
-    earlier c.requires.ways.0 c.requires.ways.1 c.args.self.now.ways c.requires.ways.2 c.loop-at.at c.index-way.result.now c.loop-at-test.true
+    earlier c.requires.ways.0 c.requires.ways.1 c.args.self.now.ways c.requires.ways.2 c.loop-at.at c.get-way.result c.loop-at-test.true
     c.loop-at.invariant.within
-    (c.index-way.ensures ∙ ap (λ (x : Seen). get_or x.ways c.loop-at.at c.index-way.result.now) c.self.view_is)
+    (c.get-way.ensures ∙ ap (λ (x : Seen). get_or x.ways c.loop-at.at c.get-way.result) c.self.view_is)
 
 pub loop-at-preserved : goal.loop-at-preserved
 loop-at-preserved c =
     let ways = c.args.self.now.ways in
-    let way = c.index-way.result.now in
+    let way = c.get-way.result in
     let low = earlier c.requires.ways.0 c.requires.ways.1 ways c.requires.ways.2 c.loop-at.at way c.loop-at-test.true c.loop-at.invariant.within
-    (c.index-way.ensures ∙ ap (λ (x : Seen). get_or x.ways c.loop-at.at c.index-way.result.now) c.self.view_is) in
+    (c.get-way.ensures ∙ ap (λ (x : Seen). get_or x.ways c.loop-at.at c.get-way.result) c.self.view_is) in
     record {
       within = omega (arith, low, c.loop-at.invariant.within);
       lead = λ s all are. lead_back s c.loop-at.turns.items c.push.new.self.items way.turn (get_or all way.from []) (get_or all c.args.number [])
           c.in_ok-push.ensures.items
           (lead_on s all ways are c.loop-at.at way c.loop-at-test.true c.loop-at.invariant.within
-          (c.index-way.ensures ∙ ap (λ (x : Seen). get_or x.ways c.loop-at.at c.index-way.result.now) c.self.view_is) (reverse c.loop-at.turns.items)
+          (c.get-way.ensures ∙ ap (λ (x : Seen). get_or x.ways c.loop-at.at c.get-way.result) c.self.view_is) (reverse c.loop-at.turns.items)
           (get_or all c.args.number []) (c.loop-at.invariant.lead s all are));
     }
 
