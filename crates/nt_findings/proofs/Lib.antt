@@ -1,0 +1,5 @@
+pub mod Fitting
+pub mod Knowing
+pub mod Showing
+pub mod Opened
+pub mod Saying

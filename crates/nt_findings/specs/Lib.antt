@@ -1,0 +1,5 @@
+pub mod Known
+pub mod Verdicts
+pub mod Spoken
+pub mod Ways
+pub mod Questions

@@ -1,0 +1,260 @@
+//! What is asked of a script, and the searches that answer it.
+ghost use Rattle.std.specs.Option.{option_to_list};
+ghost use Rattle.std.specs.Prelude.{◌≡◌, ◌<◌, ◌++◌, IfOk, IfSome, List, None, OnOk, Some, get_or};
+ghost use Rattle.std.specs.Prelude.{length};
+ghost use Rattle.std.specs.Prelude.{ℕ};
+ghost use Rattle.nt_event.specs.declared.events.Event.{Event as TheEvent};
+ghost use Rattle.nt_event.specs.declared.scripts.Script.{Script as TheScript};
+ghost use Rattle.nt_expect.specs.declared.expectations.Expectation.{Expectation as Expected};
+ghost use Rattle.nt_search.specs.Failures.{AreNoted, IsFailure};
+ghost use Rattle.nt_search.specs.Ways.{AreWays};
+ghost use Rattle.nt_findings.specs.Known.{AreKnown, at_places};
+ghost use Rattle.nt_findings.specs.Questions.{AreOpen, IsFinished, IsQuestion, IsShownFor};
+ghost use Rattle.nt_findings.specs.Ways.{IsShownBy};
+
+use crate::answering::{count_of, is_whole, of_ends};
+use crate::unknown::{at_places, note, places_of};
+use nt_ask::Verdict;
+use nt_event::{Script, Turn};
+use nt_expect::Expectation;
+use nt_search::{Failure, Found, States, hunt, search};
+use std::alloc::{AllocError, Global};
+
+/// The hunts: with at most 0, 1 and 2 preemptions.
+const HUNTS: u8 = 3;
+
+/// What is asked of a script.
+#[derive(Clone, Copy)]
+pub(crate) struct Question<'a> {
+    pub(crate) script: &'a Script,
+    pub(crate) expectations: &'a [Expectation],
+    /// How many events a processor may make on the way to a state.
+    pub(crate) limit: u32,
+    /// How many states each search may find.
+    pub(crate) most: u32,
+}
+
+/// The expectations of which no failure is known yet.
+#[derive(Drop)]
+pub(crate) struct Open {
+    /// Their places among all.
+    pub(crate) places: Vec<usize>,
+    pub(crate) expectations: Vec<Expectation>,
+}
+
+/// Turns that show that an expectation fails.
+#[derive(Drop, Debug)]
+pub struct Shown {
+    /// They lead to where it shows: by the event of the last one, or where all is quiet behind it.
+    pub turns: Vec<Turn>,
+    /// The number of the event that shows it, from 0, or of all events where all is quiet.
+    pub at: u32,
+}
+
+/// What a hunt leaves.
+#[derive(Drop)]
+struct Step {
+    /// Turns that show it of the expectation that is wanted.
+    shown: Option<Shown>,
+    /// The hunt ended early: the next one would end no later.
+    is_cut: bool,
+}
+
+/// What the search of all states leaves.
+#[derive(Drop)]
+pub(crate) struct Finished {
+    pub(crate) states: u32,
+    pub(crate) edges: u64,
+    /// All states were searched.
+    pub(crate) is_whole: bool,
+    /// What is said of `always ends`.
+    pub(crate) ends: Verdict,
+    /// Turns that show it of the expectation that is wanted.
+    pub(crate) shown: Option<Shown>,
+}
+
+/// The failure that was noted of the expectation at this place.
+fn failure_at(places: &[usize], failures: &[Option<Failure>], wanted: usize) -> Option<Failure>
+    requires { length failures.now ≡ length places.now }
+    ensures { IfSome result (λ f. (k : ℕ) × (k < length places.now) ×
+        (get_or places.now k 0 ≡ wanted) × (get_or failures.now k None ≡ Some f)) }
+{
+    for index in 0..places.len() {
+        if places[index] == wanted {
+            return failures[index];
+        }
+    }
+    None
+}
+
+/// Adds the turn, if there is one.
+fn add_turn(turns: &mut Vec<Turn>, turn: Option<Turn>) -> Result<(), AllocError>
+    ensures { OnOk result (turns.new.items ≡ turns.old.items ++ option_to_list turn) }
+{
+    match turn {
+        Some(turn) => {
+            turns.push(turn)?;
+            Ok(())
+        }
+        None => Ok(()),
+    }
+}
+
+/// The turns that show it where a failure shows.
+fn shown_by(alloc: Global, states: &States, failure: Failure) -> Result<Shown, AllocError>
+    requires state { failure.state < length states.now.ways }
+    requires ways { (s : TheScript) × (all : List (List TheEvent)) × AreWays s all states.now.ways }
+    ensures { IfOk result (λ y. (s : TheScript) (all : List (List TheEvent)) (x : Expected) →
+        AreWays s all states.now.ways → IsFailure s all x failure →
+        IsShownBy s x y.turns.items y.at) }
+{
+    let mut turns = states.turns_to(alloc, failure.state)?;
+    add_turn(&mut turns, failure.turn)?;
+    Ok(Shown {
+        turns,
+        at: failure.at,
+    })
+}
+
+impl<'a> Question<'a> {
+    /// The expectations of which no failure is known.
+    pub(crate) fn open(&self, alloc: Global, fails: &[Option<u32>]) -> Result<Open, AllocError>
+        requires question { IsQuestion self.now }
+        requires count { length fails.now ≡ length self.now.expectations.now }
+        ensures { IfOk result (AreOpen self.now fails.now) }
+    {
+        let places = places_of(alloc, fails)?;
+        let expectations = at_places(alloc, self.expectations, places.as_slice())?;
+        Ok(Open {
+            places,
+            expectations,
+        })
+    }
+
+    /// The turns that show it of the expectation at this place, where a search found its failure.
+    fn shown_at(
+        &self,
+        alloc: Global,
+        places: &[usize],
+        found: &Found,
+        place: usize,
+    ) -> Result<Option<Shown>, AllocError>
+        requires { (all : List (List TheEvent)) ×
+            AreWays self.now.script.now all found.now.states.ways ×
+            AreNoted self.now.script.now all (at_places self.now.expectations.now places.now)
+            found.now.failures.items }
+        ensures { IfOk result (IsShownFor self.now (Some place)) }
+    {
+        match failure_at(places, found.failures.as_slice(), place) {
+            Some(failure) => {
+                let shown = shown_by(alloc, &found.states, failure)?;
+                Ok(Some(shown))
+            }
+            None => Ok(None),
+        }
+    }
+
+    /// The turns that show it of the expectation that is wanted.
+    fn shown_in(
+        &self,
+        alloc: Global,
+        places: &[usize],
+        found: &Found,
+        wanted: Option<usize>,
+    ) -> Result<Option<Shown>, AllocError>
+        requires { (all : List (List TheEvent)) ×
+            AreWays self.now.script.now all found.now.states.ways ×
+            AreNoted self.now.script.now all (at_places self.now.expectations.now places.now)
+            found.now.failures.items }
+        ensures { IfOk result (IsShownFor self.now wanted) }
+    {
+        match wanted {
+            Some(place) => self.shown_at(alloc, places, found, place),
+            None => Ok(None),
+        }
+    }
+
+    /// Hunts for failures of those of which none is known, and notes them.
+    fn hunt_once(
+        &self,
+        alloc: Global,
+        fails: &mut Vec<Option<u32>>,
+        preemptions: u8,
+        wanted: Option<usize>,
+    ) -> Result<Step, AllocError>
+        requires question { IsQuestion self.now }
+        requires known { AreKnown self.now.script.now self.now.expectations.now fails.old.items }
+        ensures known { AreKnown self.now.script.now self.now.expectations.now fails.new.items }
+        ensures shown { IfOk result (λ step. IsShownFor self.now wanted step.shown) }
+    {
+        let open = self.open(alloc, fails.as_slice())?;
+        let expectations = open.expectations.as_slice();
+        let hunted = hunt(
+            alloc,
+            self.script,
+            expectations,
+            self.limit,
+            self.most,
+            preemptions,
+        )?;
+        let places = open.places.as_slice();
+        note(places, hunted.found.failures.as_slice(), fails);
+        let shown = self.shown_in(alloc, places, &hunted.found, wanted)?;
+        Ok(Step {
+            shown,
+            is_cut: hunted.is_cut,
+        })
+    }
+
+    /// Hunts with ever more preemptions, and notes the failures. It ends where turns are found that
+    /// show it of the expectation that is wanted. On one processor there are no preemptions, and
+    /// the search of all states is as good.
+    pub(crate) fn hunt(
+        &self,
+        alloc: Global,
+        fails: &mut Vec<Option<u32>>,
+        wanted: Option<usize>,
+    ) -> Result<Option<Shown>, AllocError>
+        requires question { IsQuestion self.now }
+        requires known { AreKnown self.now.script.now self.now.expectations.now fails.old.items }
+        ensures known { AreKnown self.now.script.now self.now.expectations.now fails.new.items }
+        ensures shown { IfOk result (IsShownFor self.now wanted) }
+    {
+        if self.script.cpus < 2 {
+            return Ok(None);
+        }
+        for preemptions in 0..HUNTS {
+            let step = self.hunt_once(alloc, fails, preemptions, wanted)?;
+            if step.shown.is_some() || step.is_cut {
+                return Ok(step.shown);
+            }
+        }
+        Ok(None)
+    }
+
+    /// Searches all states for failures of those of which none is known, and notes them.
+    pub(crate) fn finish(
+        &self,
+        alloc: Global,
+        fails: &mut Vec<Option<u32>>,
+        wanted: Option<usize>,
+    ) -> Result<Finished, AllocError>
+        requires question { IsQuestion self.now }
+        requires known { AreKnown self.now.script.now self.now.expectations.now fails.old.items }
+        ensures known { AreKnown self.now.script.now self.now.expectations.now fails.new.items }
+        ensures finished { IfOk result (IsFinished self.now wanted fails.new.items) }
+    {
+        let open = self.open(alloc, fails.as_slice())?;
+        let expectations = open.expectations.as_slice();
+        let searched = search(alloc, self.script, expectations, self.limit, self.most)?;
+        let places = open.places.as_slice();
+        note(places, searched.found.failures.as_slice(), fails);
+        Ok(Finished {
+            states: count_of(searched.found.states.len()),
+            edges: searched.found.edges,
+            is_whole: is_whole(&searched.end),
+            ends: of_ends(alloc, &searched)?,
+            shown: self.shown_in(alloc, places, &searched.found, wanted)?,
+        })
+    }
+}
