@@ -1,3 +1,3 @@
-pub mod Verdicts
 pub mod Replies
+pub mod Witnesses
 pub mod Outcome

@@ -20,3 +20,15 @@ long_line = codes "input too long\n"
 
 abbrev pub memory_line : List ℕ
 memory_line = codes "no memory\n"
+
+abbrev pub no_expectation_line : List ℕ
+no_expectation_line = codes "no expectation\n"
+
+abbrev pub no_witness_line : List ℕ
+no_witness_line = codes "no witness\n"
+
+abbrev pub too_many_line : List ℕ
+too_many_line = codes "too many turns\n"
+
+abbrev pub unknown_line : List ℕ
+unknown_line = codes "unknown\n"

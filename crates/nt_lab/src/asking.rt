@@ -1,49 +1,24 @@
 //! What is replied to the bytes of an input.
-ghost use Rattle.std.specs.Prelude.{◌≡◌, ◌≤◌, IfOk, IsTrue, length, true, ℕ};
+ghost use Rattle.std.specs.Prelude.{◌≡◌, ◌≤◌, IfOk, IsTrue, length, true};
 ghost use Rattle.nt_ask.specs.Words.{IsStates, IsWithin};
-ghost use Rattle.nt_event.specs.declared.scripts.Script.{Script as TheScript};
 ghost use Rattle.nt_event.specs.Script.{fits};
 ghost use Rattle.nt_expect.specs.Expectations.{expectations_fit};
+ghost use Rattle.nt_findings.specs.Verdicts.{IsAnswer};
 ghost use Rattle.nt_script.specs.Sound.{IsSound};
-ghost use Rattle.nt_search.specs.Ends.{TellsOfEnds, is_whole};
-ghost use Rattle.nt_search.specs.Searches.{IsShownIn};
 ghost use Rattle.nt_text.specs.declared.lines.TheConstants.{INPUT_LIMIT};
-ghost use Rattle.nt_lab.specs.Outcome.{IsFoundIn, IsRefusal, IsReplied};
+ghost use Rattle.nt_lab.specs.Outcome.{IsAskReply, IsFoundIn, IsRefusal, IsReplied};
 ghost use Rattle.nt_lab.specs.Replies.{text_of};
-ghost use Rattle.nt_lab.specs.Verdicts.{IsAnswer, TellsOfAll};
 
 use crate::reply::{Reply, Text, no_memory};
-use crate::verdicts::{count_of, is_whole, verdicts_of};
+use crate::witnessing::witnessed;
 use nt_ask::{
     Answer, AskRefusal, Asked, Form, Status, print_answer, read_asked, refusal_text, verdict_status,
 };
-use nt_expect::Expectation;
+use nt_findings::ask;
 use nt_log::turn_bound;
-use nt_search::{Searched, search};
 use std::alloc::{AllocError, Global};
 
-/// What the search says of these expectations.
-fn answer_by(
-    alloc: Global,
-    expectations: &[Expectation],
-    searched: &Searched,
-) -> Result<Answer, AllocError>
-    requires { (s : TheScript) × (limit : ℕ) × (most : ℕ) ×
-        IsShownIn s expectations.now limit most searched.now }
-    ensures { IfOk result (λ a. (s : TheScript) →
-        TellsOfAll s (is_whole searched.now.end) expectations.now
-        searched.now.found.failures.items → TellsOfEnds s searched.now.end →
-        IsAnswer s expectations.now a) }
-{
-    Ok(Answer {
-        states: count_of(searched.found.states.len()),
-        edges: searched.found.edges,
-        is_cut: !is_whole(&searched.end),
-        verdicts: verdicts_of(alloc, expectations, searched)?,
-    })
-}
-
-/// What a search up to so many states says of what is asked. On the way to a state each processor
+/// What searches up to so many states say of what is asked. On the way to a state each processor
 /// makes as many events as a run of the script may have.
 fn answer_of(alloc: Global, asked: &Asked, states: u32) -> Result<Answer, AllocError>
     requires fits { IsTrue (fits asked.now.input.script) }
@@ -53,8 +28,7 @@ fn answer_of(alloc: Global, asked: &Asked, states: u32) -> Result<Answer, AllocE
 {
     let limit = turn_bound(asked.input.script.cpus);
     let expectations = asked.expectations.as_slice();
-    let searched = search(alloc, &asked.input.script, expectations, limit, states)?;
-    let answer = answer_by(alloc, expectations, &searched)?;
+    let answer = ask(alloc, &asked.input.script, expectations, limit, states)?;
     Ok(answer)
 }
 
@@ -63,7 +37,7 @@ fn printed(alloc: Global, asked: &Asked, answer: &Answer) -> Reply
     requires sound { IsSound asked.now.input }
     requires fit { expectations_fit asked.now.input.script asked.now.expectations ≡ true }
     requires is { IsAnswer asked.now.input.script asked.now.expectations answer.now }
-    ensures { IsReplied asked.now result.status (text_of result.text) }
+    ensures { IsAskReply asked.now result.status (text_of result.text) }
 {
     match print_answer(alloc, &asked.input, asked.expectations.as_slice(), answer) {
         Ok(text) => Reply {
@@ -74,17 +48,31 @@ fn printed(alloc: Global, asked: &Asked, answer: &Answer) -> Reply
     }
 }
 
-/// What is replied to what is asked.
+/// What is replied where all expectations are asked for.
 fn answered(alloc: Global, asked: &Asked, states: u32) -> Reply
     requires sound { IsSound asked.now.input }
     requires fits { IsTrue (fits asked.now.input.script) }
     requires fit { expectations_fit asked.now.input.script asked.now.expectations ≡ true }
     requires states { IsStates states }
-    ensures { IsReplied asked.now result.status (text_of result.text) }
+    ensures { IsAskReply asked.now result.status (text_of result.text) }
 {
     match answer_of(alloc, asked, states) {
         Ok(answer) => printed(alloc, asked, &answer),
         Err(_) => no_memory(),
+    }
+}
+
+/// What is replied to what is asked, by the form of the words.
+fn replied_to(alloc: Global, form: Form, asked: &Asked) -> Reply
+    requires within { IsWithin form }
+    requires sound { IsSound asked.now.input }
+    requires fits { IsTrue (fits asked.now.input.script) }
+    requires fit { expectations_fit asked.now.input.script asked.now.expectations ≡ true }
+    ensures { IsReplied form asked.now result.status (text_of result.text) }
+{
+    match form {
+        Form::Ask { states } => answered(alloc, asked, states),
+        Form::Witness { number, states } => witnessed(alloc, asked, number, states),
     }
 }
 
@@ -105,11 +93,10 @@ fn refused(alloc: Global, refusal: AskRefusal) -> Reply
 pub(crate) fn replied(alloc: Global, form: Form, bytes: &[u8]) -> Reply
     requires bytes { length bytes.now ≤ INPUT_LIMIT }
     requires within { IsWithin form }
-    ensures { IsFoundIn bytes.now result.status (text_of result.text) }
+    ensures { IsFoundIn form bytes.now result.status (text_of result.text) }
 {
-    let Form::Ask { states } = form;
     match read_asked(alloc, bytes) {
-        Ok(asked) => answered(alloc, &asked, states),
+        Ok(asked) => replied_to(alloc, form, &asked),
         Err(AskRefusal::NoMemory) => no_memory(),
         Err(refusal) => refused(alloc, refusal),
     }

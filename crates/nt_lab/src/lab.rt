@@ -15,7 +15,8 @@ use std::alloc::Global;
 /// What is replied to the source, by the form of the words.
 fn reply_from<S: Source>(alloc: Global, form: Form, source: &mut S) -> Reply
     requires { IsWithin form }
-    ensures { IsFoundFrom (supply (S.left source.old) (S.taken source.old) (S.faults source.old))
+    ensures { IsFoundFrom form
+        (supply (S.left source.old) (S.taken source.old) (S.faults source.old))
         (supply (S.left source.new) (S.taken source.new) (S.faults source.new))
         result.status (text_of result.text) }
 {
@@ -68,11 +69,17 @@ pub fn starved<K: Sink>(sink: &mut K) -> Status
 /// source is read to its end: `Read` comes only where its count of faults rose, `TooLong` where
 /// more than 33,554,432 bytes were taken, `Refused` where a line is refused, of the script or of
 /// what stands behind it; that line and the kind are written then. Else the states of the script
-/// are searched that some schedule comes to, at most as many as the form says, and a line is
-/// written for each expectation: `holds` only where it fails in no run, under any schedule and any
-/// turn limit; `fails at` only where it fails in some run; `unknown` only where not all states were
-/// searched, and then nothing holds. The status is `Ok` where all hold, `Fails` where one fails,
-/// and else `Unknown`.
+/// are searched that some schedule comes to, at most as many as the form says.
+///
+/// For `ask` a line is written for each expectation: `holds` only where it fails in no run, under
+/// any schedule and any turn limit, with an event it speaks of that comes in none; `fails at` only
+/// where it fails in some run; `unknown` only where not all states were searched, and then nothing
+/// holds. The status is `Ok` where all hold, `Fails` where one fails, and else `Unknown`.
+///
+/// For `witness` a schedule is written, with `Ok`: its replay is a settled run that begins with
+/// turns that show that the expectation fails. Else a line: `NoExpectation` where there are fewer,
+/// `NoWitness` only where it fails in no run, `TooManyTurns` only where a processor takes more
+/// turns to show it than a schedule may have, `Unknown` where nothing is known.
 ///
 /// Want of memory, `Memory`, may come at any place. The text or line of the status is written whole
 /// by one `write_all`; where that fails, `Write`, and a front part of it stands.

@@ -3,14 +3,15 @@
 //!
 //! [`ntlab`] reads a script and expectations behind it, searches the states that some schedule
 //! comes to, and writes of each expectation whether it holds under any schedule, where it fails, or
-//! that nothing is known. What is said of an expectation is defined in `specs::Verdicts`, what a
-//! call finds and writes in `specs::Outcome`.
+//! that nothing is known; or of one of them a schedule that shows that it fails. What is said of an
+//! expectation is defined in nt_findings, what a witness is in `specs::Witnesses`, and what a call
+//! finds and writes in `specs::Outcome`.
 #![tactic(auto)]
 
 mod asking;
 mod lab;
 mod reply;
-mod verdicts;
+mod witnessing;
 
 pub use lab::{ntlab, starved};
 pub use nt_ask::{Status, USAGE};

@@ -19,6 +19,12 @@ const SELF_QUEUING: &str = "\
     cpus 1\ndpc d again\nthread main 0 body\nroutine again\nqueue d\nexit\n\
     routine body\nqueue d\nexit\n";
 
+/// A DPC that lets the clock go on and inserts itself again. Time is part of a state, so each event
+/// leads to a new one.
+const ENDLESS_CLOCK: &str = "\
+    cpus 1\ndpc d again\nthread main 0 body\nroutine again\nclock 1\nqueue d\nexit\n\
+    routine body\nqueue d\nexit\n";
+
 /// Worked examples, as in crates/machine_table/data: a DPC that is raised above, a DPC without a
 /// target on two processors, and a driver in use.
 const RAISED: &str = "\
@@ -94,6 +100,20 @@ fn gives(
     Ok(found.0 == status && found.1.as_slice() == text.as_bytes())
 }
 
+/// Whether by these words, of a script with these expectations, this is answered.
+fn gives_of(
+    alloc: Global,
+    words: &[&str],
+    script: &str,
+    expected: &str,
+    status: Status,
+    text: &str,
+) -> Result<bool, AllocError> {
+    let mut input = script.as_bytes().to_vec(alloc)?;
+    input.extend_from_slice(expected.as_bytes())?;
+    gives(alloc, words, input.as_slice(), status, text)
+}
+
 /// Whether of a script with these expectations this is answered.
 fn answers(
     alloc: Global,
@@ -102,9 +122,7 @@ fn answers(
     status: Status,
     text: &str,
 ) -> Result<bool, AllocError> {
-    let mut input = script.as_bytes().to_vec(alloc)?;
-    input.extend_from_slice(expected.as_bytes())?;
-    gives(alloc, &["ask"], input.as_slice(), status, text)
+    gives_of(alloc, &["ask"], script, expected, status, text)
 }
 
 #[test]
@@ -142,6 +160,108 @@ fn a_run_that_never_ends_is_found(rt: HostRuntime) -> Result<(), Fail> {
             "expect\nalways ends\ndone\n",
             Status::Fails,
             "states 5 edges 5\n1 always ends: fails at 5\n",
+        )?
+    );
+    Ok(())
+}
+
+#[test]
+fn more_states_than_may_be_are_cut(rt: HostRuntime) -> Result<(), Fail> {
+    assert!(rt;
+        gives_of(
+            rt.alloc(),
+            &["ask", "--states", "1000"],
+            ENDLESS_CLOCK,
+            "expect\nalways ends\nnever note 1\ndone\n",
+            Status::Unknown,
+            "states 1000 edges 1000 cut\n1 always ends: unknown\n2 never note 1: unknown\n",
+        )?
+    );
+    Ok(())
+}
+
+#[test]
+fn an_event_that_never_comes_is_named(rt: HostRuntime) -> Result<(), Fail> {
+    assert!(rt;
+        answers(
+            rt.alloc(),
+            RAISED,
+            "expect\nnever note 7 after note 9\nnever note 9 twice\nnever note 9\n\
+        never note 7 after note 2\ndone\n",
+            Status::Ok,
+            "states 14 edges 13\n1 never note 7 after note 9: holds, note 9 never comes\n\
+        2 never note 9 twice: holds, note 9 never comes\n3 never note 9: holds\n\
+        4 never note 7 after note 2: holds\n",
+        )?
+    );
+    Ok(())
+}
+
+#[test]
+fn a_witness_is_a_schedule(rt: HostRuntime) -> Result<(), Fail> {
+    let alloc = rt.alloc();
+    assert!(rt;
+        gives_of(
+            alloc,
+            &["witness", "2"],
+            RAISE_QUEUE_LOWER,
+            "expect\nalways note 7\nnever note 7 above 1\ndone\n",
+            Status::Ok,
+            "schedule 10000\nswitch 0 main\nnext 0\nnext 0\nnext 0\nnext 0\nnext 0\n\
+        next 0\nnext 0\nnext 0\nnext 0\nnext 0\ndone\n",
+        )?
+    );
+    assert!(rt;
+        gives_of(
+            alloc,
+            &["witness", "1"],
+            SELF_QUEUING,
+            "expect\nalways ends\ndone\n",
+            Status::Ok,
+            "schedule 5\nswitch 0 main\nnext 0\nnext 0\nnext 0\nnext 0\ndone\n",
+        )?
+    );
+    Ok(())
+}
+
+#[test]
+fn where_there_is_no_witness_a_line_says_why(rt: HostRuntime) -> Result<(), Fail> {
+    let alloc = rt.alloc();
+    let expected = "expect\nalways note 7\nalways ends\ndone\n";
+    let script = RAISE_QUEUE_LOWER;
+    assert!(rt;
+        gives_of(
+            alloc,
+            &["witness", "1"],
+            script,
+            expected,
+            Status::NoWitness,
+            "no witness\n"
+        )?
+    );
+    assert!(rt;
+        gives_of(
+            alloc,
+            &["witness", "2"],
+            script,
+            expected,
+            Status::NoWitness,
+            "no witness\n"
+        )?
+    );
+    let words = ["witness", "3"];
+    let text = "no expectation\n";
+    assert!(rt; gives_of(alloc, &words, script, expected, Status::NoExpectation, text)?);
+    let words = ["witness", "1", "--states=1000"];
+    let expected = "expect\nalways ends\ndone\n";
+    assert!(rt;
+        gives_of(
+            alloc,
+            &words,
+            ENDLESS_CLOCK,
+            expected,
+            Status::Unknown,
+            "unknown\n"
         )?
     );
     Ok(())

@@ -1,11 +1,9 @@
 use Rattle.std.proofs.Common.{subst}
 use Rattle.std.specs.Prelude.{List}
 use Rattle.nt_expect.specs.declared.expectations.Expectation.{Expectation}
-use Rattle.nt_lab.specs.Verdicts.{IsAnswer}
-use Rattle.nt_lab.proofs.Said.{told_of_all}
+use Rattle.nt_findings.specs.Verdicts.{IsAnswer}
 use Rattle.nt_lab.proofs.asking.answer_of.Goals as goal
 
 pub returns : goal.returns
 returns c =
-    subst (λ (xs : List Expectation). IsAnswer c.args.asked.now.input.script xs c.in_ok-answer.answer) c.as_slice-expectations.ensures
-    (c.in_ok-answer.ensures _ (told_of_all _ _ _ _ c.in_ok-searched.ensures.fails c.in_ok-searched.ensures.holds) c.in_ok-searched.ensures.ends)
+    subst (λ (xs : List Expectation). IsAnswer c.args.asked.now.input.script xs c.in_ok-answer.answer) c.as_slice-expectations.ensures c.in_ok-answer.ensures
