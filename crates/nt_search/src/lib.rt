@@ -14,8 +14,6 @@ mod rounding;
 mod searching;
 mod states;
 mod stop;
-#[cfg(test)]
-mod tests;
 mod ways;
 
 pub use failures::Failure;
