@@ -1,3 +1,4 @@
+pub mod Finishing
 pub mod Fitting
 pub mod Knowing
 pub mod Showing

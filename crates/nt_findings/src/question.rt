@@ -1,15 +1,18 @@
 //! What is asked of a script, and the searches that answer it.
 ghost use Rattle.std.specs.Option.{option_to_list};
 ghost use Rattle.std.specs.Prelude.{◌≡◌, ◌<◌, ◌++◌, IfOk, IfSome, List, None, OnOk, Some, get_or};
-ghost use Rattle.std.specs.Prelude.{length};
-ghost use Rattle.std.specs.Prelude.{ℕ};
+ghost use Rattle.std.specs.Prelude.{length, not, ℕ};
 ghost use Rattle.nt_event.specs.declared.events.Event.{Event as TheEvent};
 ghost use Rattle.nt_event.specs.declared.scripts.Script.{Script as TheScript};
 ghost use Rattle.nt_expect.specs.declared.expectations.Expectation.{Expectation as Expected};
+ghost use Rattle.nt_expect.specs.declared.expectations.Expectation.TheVariants.{AlwaysEnds};
+ghost use Rattle.nt_search.specs.Ends.{TellsOfEnds, is_whole};
 ghost use Rattle.nt_search.specs.Failures.{AreNoted, IsFailure};
+ghost use Rattle.nt_search.specs.Searches.{IsShownIn};
 ghost use Rattle.nt_search.specs.Ways.{AreWays};
 ghost use Rattle.nt_findings.specs.Known.{AreKnown, at_places};
 ghost use Rattle.nt_findings.specs.Questions.{AreOpen, IsFinished, IsQuestion, IsShownFor};
+ghost use Rattle.nt_findings.specs.Verdicts.{IsSaid};
 ghost use Rattle.nt_findings.specs.Ways.{IsShownBy};
 
 use crate::answering::{count_of, is_whole, of_ends};
@@ -17,11 +20,14 @@ use crate::unknown::{at_places, note, places_of};
 use nt_ask::Verdict;
 use nt_event::{Script, Turn};
 use nt_expect::Expectation;
-use nt_search::{Failure, Found, States, hunt, search};
+use nt_search::{Failure, Found, Hunted, Searched, States, hunt, search};
 use std::alloc::{AllocError, Global};
 
 /// The hunts: with at most 0, 1 and 2 preemptions.
 const HUNTS: u8 = 3;
+
+/// How many states a hunt may find. What is not found soon is found by the search of all states.
+const HUNT_STATES: u32 = 10_000;
 
 /// What is asked of a script.
 #[derive(Clone, Copy)]
@@ -174,6 +180,57 @@ impl<'a> Question<'a> {
         }
     }
 
+    /// What a hunt leaves, by what it found of the expectations at these places.
+    fn step_of(
+        &self,
+        alloc: Global,
+        places: &[usize],
+        hunted: &Hunted,
+        wanted: Option<usize>,
+    ) -> Result<Step, AllocError>
+        requires { (all : List (List TheEvent)) ×
+            AreWays self.now.script.now all hunted.now.found.states.ways ×
+            AreNoted self.now.script.now all (at_places self.now.expectations.now places.now)
+            hunted.now.found.failures.items }
+        ensures { IfOk result (λ step. IsShownFor self.now wanted step.shown) }
+    {
+        Ok(Step {
+            shown: self.shown_in(alloc, places, &hunted.found, wanted)?,
+            is_cut: hunted.is_cut,
+        })
+    }
+
+    /// Hunts for failures of those that are open, and notes them. What was hunted is owned here
+    /// alone.
+    fn hunt_open(
+        &self,
+        alloc: Global,
+        left: &Open,
+        fails: &mut Vec<Option<u32>>,
+        preemptions: u8,
+        wanted: Option<usize>,
+    ) -> Result<Step, AllocError>
+        requires question { IsQuestion self.now }
+        requires known { AreKnown self.now.script.now self.now.expectations.now fails.old.items }
+        requires left { AreOpen self.now fails.old.items left.now }
+        ensures known { AreKnown self.now.script.now self.now.expectations.now fails.new.items }
+        ensures shown { IfOk result (λ step. IsShownFor self.now wanted step.shown) }
+    {
+        let expectations = left.expectations.as_slice();
+        let places = left.places.as_slice();
+        let most = self.most.min(HUNT_STATES);
+        let hunted = hunt(
+            alloc,
+            self.script,
+            expectations,
+            self.limit,
+            most,
+            preemptions,
+        )?;
+        note(places, hunted.found.failures.as_slice(), fails);
+        self.step_of(alloc, places, &hunted, wanted)
+    }
+
     /// Hunts for failures of those of which none is known, and notes them.
     fn hunt_once(
         &self,
@@ -187,23 +244,8 @@ impl<'a> Question<'a> {
         ensures known { AreKnown self.now.script.now self.now.expectations.now fails.new.items }
         ensures shown { IfOk result (λ step. IsShownFor self.now wanted step.shown) }
     {
-        let open = self.open(alloc, fails.as_slice())?;
-        let expectations = open.expectations.as_slice();
-        let hunted = hunt(
-            alloc,
-            self.script,
-            expectations,
-            self.limit,
-            self.most,
-            preemptions,
-        )?;
-        let places = open.places.as_slice();
-        note(places, hunted.found.failures.as_slice(), fails);
-        let shown = self.shown_in(alloc, places, &hunted.found, wanted)?;
-        Ok(Step {
-            shown,
-            is_cut: hunted.is_cut,
-        })
+        let left = self.open(alloc, fails.as_slice())?;
+        self.hunt_open(alloc, &left, fails, preemptions, wanted)
     }
 
     /// Hunts with ever more preemptions, and notes the failures. It ends where turns are found that
@@ -232,6 +274,54 @@ impl<'a> Question<'a> {
         Ok(None)
     }
 
+    /// What the search of all states leaves, by what it found of the expectations at these places.
+    fn finished_by(
+        &self,
+        alloc: Global,
+        places: &[usize],
+        searched: &Searched,
+        wanted: Option<usize>,
+    ) -> Result<Finished, AllocError>
+        requires shown { IsShownIn self.now.script.now
+            (at_places self.now.expectations.now places.now) self.now.limit self.now.most
+            searched.now }
+        requires ends { TellsOfEnds self.now.script.now searched.now.end }
+        ensures whole { IfOk result (λ f. f.is_whole ≡ is_whole searched.now.end) }
+        ensures ends { IfOk result
+            (λ f. IsSaid self.now.script.now (not f.is_whole) AlwaysEnds f.ends) }
+        ensures shown { IfOk result (λ f. IsShownFor self.now wanted f.shown) }
+    {
+        Ok(Finished {
+            states: count_of(searched.found.states.len()),
+            edges: searched.found.edges,
+            is_whole: is_whole(&searched.end),
+            ends: of_ends(alloc, searched)?,
+            shown: self.shown_in(alloc, places, &searched.found, wanted)?,
+        })
+    }
+
+    /// Searches all states for failures of those that are open, and notes them. What was found is
+    /// owned here alone.
+    fn search_open(
+        &self,
+        alloc: Global,
+        left: &Open,
+        fails: &mut Vec<Option<u32>>,
+        wanted: Option<usize>,
+    ) -> Result<Finished, AllocError>
+        requires question { IsQuestion self.now }
+        requires known { AreKnown self.now.script.now self.now.expectations.now fails.old.items }
+        requires left { AreOpen self.now fails.old.items left.now }
+        ensures known { AreKnown self.now.script.now self.now.expectations.now fails.new.items }
+        ensures finished { IfOk result (IsFinished self.now wanted fails.new.items) }
+    {
+        let expectations = left.expectations.as_slice();
+        let places = left.places.as_slice();
+        let searched = search(alloc, self.script, expectations, self.limit, self.most)?;
+        note(places, searched.found.failures.as_slice(), fails);
+        self.finished_by(alloc, places, &searched, wanted)
+    }
+
     /// Searches all states for failures of those of which none is known, and notes them.
     pub(crate) fn finish(
         &self,
@@ -244,17 +334,7 @@ impl<'a> Question<'a> {
         ensures known { AreKnown self.now.script.now self.now.expectations.now fails.new.items }
         ensures finished { IfOk result (IsFinished self.now wanted fails.new.items) }
     {
-        let open = self.open(alloc, fails.as_slice())?;
-        let expectations = open.expectations.as_slice();
-        let searched = search(alloc, self.script, expectations, self.limit, self.most)?;
-        let places = open.places.as_slice();
-        note(places, searched.found.failures.as_slice(), fails);
-        Ok(Finished {
-            states: count_of(searched.found.states.len()),
-            edges: searched.found.edges,
-            is_whole: is_whole(&searched.end),
-            ends: of_ends(alloc, &searched)?,
-            shown: self.shown_in(alloc, places, &searched.found, wanted)?,
-        })
+        let left = self.open(alloc, fails.as_slice())?;
+        self.search_open(alloc, &left, fails, wanted)
     }
 }

@@ -71,12 +71,12 @@ impl<'a> Question<'a> {
     }
 
     /// What a search of all states, for those that were open, says of `always ends`.
-    fn goes_on(&self, alloc: Global, open: &Open, searched: &Searched) -> Result<Sought, AllocError>
+    fn goes_on(&self, alloc: Global, left: &Open, searched: &Searched) -> Result<Sought, AllocError>
         requires question { IsQuestion self.now }
-        requires shown { IsShownIn self.now.script.now open.now.expectations.items self.now.limit
+        requires shown { IsShownIn self.now.script.now left.now.expectations.items self.now.limit
             self.now.most searched.now }
         requires ends { TellsOfEnds self.now.script.now searched.now.end }
-        requires named { expectations_fit self.now.script.now open.now.expectations.items ≡ true }
+        requires named { expectations_fit self.now.script.now left.now.expectations.items ≡ true }
         ensures { IfOk result (IsSought self.now.script.now AlwaysEnds) }
     {
         let End::Whole(depths) = &searched.end else {
@@ -88,7 +88,7 @@ impl<'a> Question<'a> {
         let turns = turns_round(
             alloc,
             self.script,
-            open.expectations.as_slice(),
+            left.expectations.as_slice(),
             self.limit,
             &searched.found.states,
             round.as_slice(),
@@ -99,6 +99,28 @@ impl<'a> Question<'a> {
         }
     }
 
+    /// What the search of all states, for those that are open, says of `always ends`. What was
+    /// found is owned here alone.
+    fn search_rounds(&self, alloc: Global, left: &Open) -> Result<Sought, AllocError>
+        requires question { IsQuestion self.now }
+        requires named { expectations_fit self.now.script.now left.now.expectations.items ≡ true }
+        ensures { IfOk result (IsSought self.now.script.now AlwaysEnds) }
+    {
+        let expectations = left.expectations.as_slice();
+        let searched = search(alloc, self.script, expectations, self.limit, self.most)?;
+        self.goes_on(alloc, left, &searched)
+    }
+
+    /// What is found of `always ends`, where a failure is known of some of the others.
+    fn seek_round_of(&self, alloc: Global, fails: &[Option<u32>]) -> Result<Sought, AllocError>
+        requires question { IsQuestion self.now }
+        requires count { length fails.now ≡ length self.now.expectations.now }
+        ensures { IfOk result (IsSought self.now.script.now AlwaysEnds) }
+    {
+        let left = self.open(alloc, fails)?;
+        self.search_rounds(alloc, &left)
+    }
+
     /// What is found of `always ends`.
     fn seek_round(&self, alloc: Global) -> Result<Sought, AllocError>
         requires question { IsQuestion self.now }
@@ -106,11 +128,7 @@ impl<'a> Question<'a> {
     {
         let mut fails = none_known(alloc, self.expectations.len())?;
         let _none = self.hunt(alloc, &mut fails, None)?;
-        let open = self.open(alloc, fails.as_slice())?;
-        let expectations = open.expectations.as_slice();
-        let searched = search(alloc, self.script, expectations, self.limit, self.most)?;
-        let sought = self.goes_on(alloc, &open, &searched)?;
-        Ok(sought)
+        self.seek_round_of(alloc, fails.as_slice())
     }
 
     /// What is found of the expectation at this place.
