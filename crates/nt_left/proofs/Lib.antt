@@ -1,0 +1,12 @@
+pub mod Lists
+pub mod Elements
+pub mod Pasts
+pub mod Moves
+pub mod Standing
+pub mod Following
+pub mod Dpcs
+pub mod Found
+pub mod Listed
+pub mod Queued
+pub mod Caused
+pub mod Waiting
