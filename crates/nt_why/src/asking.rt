@@ -1,0 +1,77 @@
+//! Why a thing has not run yet.
+ghost use Rattle.std.specs.List.{All};
+ghost use Rattle.std.specs.Prelude.{◌≡◌, ◌≤◌, ◌*◌, IfOk, IsTrue, length, min, reverse};
+ghost use Rattle.nt_event.specs.Script.{fits};
+ghost use Rattle.nt_event.specs.Step.{IsRun};
+ghost use Rattle.nt_why.specs.Moments.{IsAsked, events_of};
+ghost use Rattle.nt_why.specs.Says.{AreComplete, Says};
+
+use crate::fates::Object;
+use crate::objects::explain;
+use crate::question::Question;
+use crate::reasons::Reason;
+use nt_event::Script;
+use nt_event::limits::{EVENTS, TURNS};
+use nt_history::History;
+use std::alloc::{AllocError, Global};
+
+/// The question about a run.
+fn question_of<'a>(
+    script: &'a Script,
+    history: &'a History,
+    after: u32,
+    thing: Object,
+) -> Question<'a>
+    requires script { IsTrue (fits script.now) }
+    requires turns { (1 ≤ history.now.turns) × (history.now.turns ≤ TURNS) }
+    requires all { script.now.cpus * history.now.turns ≤ EVENTS }
+    requires run { IsRun script.now history.now.turns (reverse history.now.events) }
+    ensures script { result.script.now ≡ script.now }
+    ensures turns { result.turns ≡ history.now.turns }
+    ensures events { events_of result ≡ history.now.events }
+    ensures end { result.end ≡ min after (length history.now.events) }
+    ensures object { result.object ≡ thing }
+    ensures asked { IsAsked result }
+{
+    let events = history.lend();
+    let end = (after as usize).min(events.briefs.len());
+    Question {
+        script,
+        events,
+        turns: history.turns(),
+        end,
+        object: thing,
+    }
+}
+
+/// Why the thing has not run after the first `after` events of the history, or after all of them
+/// where it has fewer. An error is want of memory.
+///
+/// The script fits, and the history is a run of it, settled or not. Its turn limit is 1 to 20,000
+/// and at most 160,000 in all processors together. Each reason is true of the thing then. Where
+/// the thing has no pending insert, the first reason says why: no event inserted it, or the last
+/// insert was begun, removed or flushed. Else some reason says what holds it back, exactly where
+/// the next event of the processor where it waits doesn't deliver it.
+pub fn why(
+    alloc: Global,
+    script: &Script,
+    history: &History,
+    after: u32,
+    thing: Object,
+) -> Result<Vec<Reason>, AllocError>
+    requires script { IsTrue (fits script.now) }
+    requires turns { (1 ≤ history.now.turns) × (history.now.turns ≤ TURNS) }
+    requires all { script.now.cpus * history.now.turns ≤ EVENTS }
+    requires run { IsRun script.now history.now.turns (reverse history.now.events) }
+    ensures told { IfOk result (λ rs. All
+        (Says script.now history.now.turns history.now.events
+        (min after (length history.now.events)) thing) rs.items) }
+    ensures complete { IfOk result (λ rs.
+        AreComplete script.now history.now.turns history.now.events
+        (min after (length history.now.events)) thing rs.items) }
+{
+    let question = question_of(script, history, after, thing);
+    let mut reasons = Vec::new(alloc);
+    explain(alloc, &question, &mut reasons)?;
+    Ok(reasons)
+}
