@@ -1,6 +1,5 @@
 -- What is written for a status.
 use Rattle.std.specs.Prelude.{List, codes, ℕ}
-use Rattle.nt_ask.specs.declared.words.TheConstants.{USAGE}
 use Rattle.nt_lab.specs.declared.reply.Text.{Text}
 use Rattle.nt_lab.specs.declared.reply.Text.TheVariants.{Line, Made}
 
@@ -8,15 +7,6 @@ use Rattle.nt_lab.specs.declared.reply.Text.TheVariants.{Line, Made}
 abbrev pub text_of : Text → List ℕ
 text_of (Line line) = line.now
 text_of (Made text) = text.items
-
-abbrev pub usage_line : List ℕ
-usage_line = USAGE.now
-
-abbrev pub read_line : List ℕ
-read_line = codes "read fault\n"
-
-abbrev pub long_line : List ℕ
-long_line = codes "input too long\n"
 
 abbrev pub memory_line : List ℕ
 memory_line = codes "no memory\n"

@@ -1,19 +1,16 @@
-//! What is replied to the bytes of an input.
-ghost use Rattle.std.specs.Prelude.{◌≡◌, ◌≤◌, IfOk, IsTrue, length, true};
+//! What is replied to what is asked.
+ghost use Rattle.std.specs.Prelude.{◌≡◌, IfOk, IsTrue, true};
 ghost use Rattle.nt_ask.specs.Words.{IsStates, IsWithin};
 ghost use Rattle.nt_event.specs.Script.{fits};
 ghost use Rattle.nt_expect.specs.Expectations.{expectations_fit};
 ghost use Rattle.nt_findings.specs.Verdicts.{IsAnswer};
 ghost use Rattle.nt_script.specs.Sound.{IsSound};
-ghost use Rattle.nt_text.specs.declared.lines.TheConstants.{INPUT_LIMIT};
-ghost use Rattle.nt_lab.specs.Outcome.{IsAskReply, IsFoundIn, IsRefusal, IsReplied};
+ghost use Rattle.nt_lab.specs.Outcome.{IsAskReply, IsReplied};
 ghost use Rattle.nt_lab.specs.Replies.{text_of};
 
 use crate::reply::{Reply, Text, no_memory};
 use crate::witnessing::witnessed;
-use nt_ask::{
-    Answer, AskRefusal, Asked, Form, Status, print_answer, read_asked, refusal_text, verdict_status,
-};
+use nt_ask::{Answer, Asked, Form, print_answer, verdict_status};
 use nt_findings::ask;
 use nt_log::turn_bound;
 use std::alloc::{AllocError, Global};
@@ -63,7 +60,19 @@ fn answered(alloc: Global, asked: &Asked, states: u32) -> Reply
 }
 
 /// What is replied to what is asked, by the form of the words.
-fn replied_to(alloc: Global, form: Form, asked: &Asked) -> Reply
+///
+/// For `ask` a line is written for each expectation: `holds` only where it fails in no run, under
+/// any schedule and any turn limit, with an event it speaks of that comes in none; `fails at` only
+/// where it fails in some run; `unknown` only where not all states were searched, and then nothing
+/// holds. The status is `Ok` where all hold, `Fails` where one fails, and else `Unknown`.
+///
+/// For `witness` a schedule is written, with `Ok`: its replay is a settled run that begins with
+/// turns that show that the expectation fails. Else a line: `NoExpectation` where there are fewer,
+/// `NoWitness` only where it fails in no run, `TooManyTurns` only where a processor takes more
+/// turns to show it than a schedule may have, `Unknown` where nothing is known.
+///
+/// Want of memory, `Memory`, may come at any place.
+pub fn reply_to(alloc: Global, form: Form, asked: &Asked) -> Reply
     requires within { IsWithin form }
     requires sound { IsSound asked.now.input }
     requires fits { IsTrue (fits asked.now.input.script) }
@@ -73,31 +82,5 @@ fn replied_to(alloc: Global, form: Form, asked: &Asked) -> Reply
     match form {
         Form::Ask { states } => answered(alloc, asked, states),
         Form::Witness { number, states } => witnessed(alloc, asked, number, states),
-    }
-}
-
-/// What is replied to bytes that are refused so.
-fn refused(alloc: Global, refusal: AskRefusal) -> Reply
-    ensures { IsRefusal refusal result.status (text_of result.text) }
-{
-    match refusal_text(alloc, refusal) {
-        Ok(text) => Reply {
-            status: Status::Refused,
-            text: Text::Made(text),
-        },
-        Err(_) => no_memory(),
-    }
-}
-
-/// What is replied to the bytes of an input, by the form of the words.
-pub(crate) fn replied(alloc: Global, form: Form, bytes: &[u8]) -> Reply
-    requires bytes { length bytes.now ≤ INPUT_LIMIT }
-    requires within { IsWithin form }
-    ensures { IsFoundIn form bytes.now result.status (text_of result.text) }
-{
-    match read_asked(alloc, bytes) {
-        Ok(asked) => replied_to(alloc, form, &asked),
-        Err(AskRefusal::NoMemory) => no_memory(),
-        Err(refusal) => refused(alloc, refusal),
     }
 }

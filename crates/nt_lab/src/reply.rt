@@ -6,7 +6,7 @@ use nt_ask::Status;
 
 /// A text to be written.
 #[derive(Drop)]
-pub(crate) enum Text {
+pub enum Text {
     /// A line that never changes.
     Line(&'static str),
     /// A text that was made.
@@ -15,13 +15,13 @@ pub(crate) enum Text {
 
 /// A status and the text that is written for it.
 #[derive(Drop)]
-pub(crate) struct Reply {
-    pub(crate) status: Status,
-    pub(crate) text: Text,
+pub struct Reply {
+    pub status: Status,
+    pub text: Text,
 }
 
 impl Text {
-    pub(crate) fn as_bytes(&self) -> &[u8]
+    pub fn as_bytes(&self) -> &[u8]
         ensures { result.now ≡ text_of self.now }
     {
         match self {
@@ -32,7 +32,7 @@ impl Text {
 }
 
 /// A status with a line that never changes.
-pub(crate) fn line(status: Status, text: &'static str) -> Reply
+pub fn line(status: Status, text: &'static str) -> Reply
     ensures status { result.status ≡ status }
     ensures text { text_of result.text ≡ text.now }
 {
@@ -43,7 +43,7 @@ pub(crate) fn line(status: Status, text: &'static str) -> Reply
 }
 
 /// There is not enough memory.
-pub(crate) fn no_memory() -> Reply
+pub fn no_memory() -> Reply
     ensures status { result.status ≡ Status.Memory }
     ensures text { text_of result.text ≡ memory_line }
 {
