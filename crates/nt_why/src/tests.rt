@@ -1,11 +1,15 @@
 //! Two questions about scripts of the tutorial, and each way in which an object isn't pending. The
 //! text is worked by hand from their reports.
+ghost use Rattle.std.specs.Prelude.{◌≤◌, ◌*◌, reverse};
+ghost use Rattle.nt_event.specs.Step.{IsRun};
 ghost use Rattle.nt_script.specs.Sound.{IsSound};
 
-use crate::{Object, print_reasons, why};
+use crate::{Object, Reason, print_reasons, why};
 use nt_core::run;
+use nt_event::limits::{EVENTS, TURNS};
 use nt_event::{ApcNo, DpcNo};
-use nt_script::{Input, ScriptRefusal, read};
+use nt_history::History;
+use nt_script::{Input, read};
 use nt_text::INPUT_LIMIT;
 use std::alloc::{AllocError, Global};
 
@@ -62,79 +66,51 @@ apc done
 exit
 ";
 
-/// The input of a text that has one.
-fn input_of(alloc: Global, text: &str) -> Result<Input, ScriptRefusal>
-    ensures { IfOk result IsSound }
-{
-    if text.len() > INPUT_LIMIT {
-        return Err(ScriptRefusal::NoMemory);
-    }
-    read(alloc, text.as_bytes())
-}
-
-/// Whether the robin run of a script of two processors tells this of an object, after its first
-/// events.
-fn tells(
-    alloc: Global,
-    input: &Input,
-    after: u32,
-    object: Object,
-    wanted: &str,
-) -> Result<bool, AllocError>
-    requires { IsSound input.now }
-{
-    if input.script.cpus != 2 {
-        return Ok(false);
-    }
-    let history = run(alloc, &input.script, 10_000)?;
-    let reasons = why(alloc, &input.script, &history, after, object)?;
-    let text = print_reasons(alloc, input, object, reasons.as_slice())?;
-    Ok(text.as_slice() == wanted.as_bytes())
-}
-
-#[test]
-fn a_dpc_of_another_processor(rt: HostRuntime) -> Result<(), AllocError> {
-    let alloc = rt.alloc();
-    let med = Object::Dpc(DpcNo(0));
-    if let Ok(input) = input_of(alloc, OTHER) {
-        let wanted = "dpc med is queued on p1 since 8: medium, by p0
+/// What is told of the DPC object `med` of [`OTHER`] after so many events.
+const OF_MED: [(u32, &str); 5] = [
+    (8, "dpc med was never inserted\n"),
+    (
+        15,
+        "dpc med is queued on p1 since 8: medium, by p0
 it is the first of its part
 p1 is at level 0 since 1: base b, frame 1
 the insert at 8 did not ask for class 2 of p1
 * class 2 of p1 isn't asked
 * next on p1 comes: call 1 note 17
 then: begun at 23
-";
-        assert!(rt; tells(alloc, &input, 15, med, wanted)?);
-        let wanted = "dpc med is queued on p1 since 8: medium, by p0
+",
+    ),
+    (
+        17,
+        "dpc med is queued on p1 since 8: medium, by p0
 * behind dpc high, inserted at 16
 p1 is at level 0 since 1: base b, frame 1
 the insert at 8 did not ask for class 2 of p1
 * class 2 of p1 was asked at 16; p1 has not noticed it
 * next on p1 comes: call 1 note 18
 then: begun at 23
-";
-        assert!(rt; tells(alloc, &input, 17, med, wanted)?);
-        let wanted = "dpc med is queued on p1 since 8: medium, by p0
+",
+    ),
+    (
+        22,
+        "dpc med is queued on p1 since 8: medium, by p0
 it is the first of its part
 p1 is at level 0 since 21: base b, frame 1
 the insert at 8 did not ask for class 2 of p1
 class 2 of p1 was asked at 16, noticed since 17
 then: begun at 23
-";
-        assert!(rt; tells(alloc, &input, 22, med, wanted)?);
-        assert!(rt; tells(alloc, &input, 8, med, "dpc med was never inserted\n")?);
-        let wanted = "dpc med isn't pending: its insert at 8 was begun at 23\n";
-        assert!(rt; tells(alloc, &input, 99, med, wanted)?);
-    }
-    Ok(())
-}
+",
+    ),
+    (
+        99,
+        "dpc med isn't pending: its insert at 8 was begun at 23\n",
+    ),
+];
 
-#[test]
-fn an_apc_of_a_guarded_wait(rt: HostRuntime) -> Result<(), AllocError> {
-    let alloc = rt.alloc();
-    if let Ok(input) = input_of(alloc, HANG) {
-        let wanted = "apc done is inserted for w since 8: special, by p1
+/// What is told of the APC object `done` of [`HANG`] after so many events.
+const OF_DONE: [(u32, &str); 1] = [(
+    13,
+    "apc done is inserted for w since 8: special, by p1
 it is the first APC of its kind there
 * w isn't running on p0: blocked since 4, wait kernel plain, at level 0
 * w is in a guarded region
@@ -142,8 +118,103 @@ p0 is at level 0 since 4: no routine runs
 class 1 of p0 was asked at 8, noticed since 9
 * p0 has no next event: NothingToDo
 then: waits at the end
-";
-        assert!(rt; tells(alloc, &input, 13, Object::Apc(ApcNo(0)), wanted)?);
+",
+)];
+
+/// Whether these reasons have this text.
+fn is_text(
+    alloc: Global,
+    input: &Input,
+    object: Object,
+    reasons: &[Reason],
+    wanted: &str,
+) -> Result<bool, AllocError>
+    requires { IsSound input.now }
+{
+    let text = print_reasons(alloc, input, object, reasons)?;
+    Ok(text.as_slice() == wanted.as_bytes())
+}
+
+/// Whether this is told after the first events of the history.
+fn is_told(
+    alloc: Global,
+    input: &Input,
+    history: &History,
+    object: Object,
+    case: &(u32, &str),
+) -> Result<bool, AllocError>
+    requires sound { IsSound input.now }
+    requires turns { (1 ≤ history.now.turns) × (history.now.turns ≤ TURNS) }
+    requires all { input.now.script.cpus * history.now.turns ≤ EVENTS }
+    requires run { IsRun input.now.script history.now.turns (reverse history.now.events) }
+{
+    let reasons = why(alloc, &input.script, history, case.0, object)?;
+    is_text(alloc, input, object, reasons.as_slice(), case.1)
+}
+
+/// Whether all of this is told of the robin run of a script of two processors.
+fn are_told(
+    alloc: Global,
+    input: &Input,
+    object: Object,
+    cases: &[(u32, &str)],
+) -> Result<bool, AllocError>
+    requires { IsSound input.now }
+{
+    if input.script.cpus != 2 {
+        return Ok(false);
     }
+    let history = run(alloc, &input.script, 10_000)?;
+    all_told(alloc, input, &history, object, cases)
+}
+
+/// Whether all of this is told of the history.
+fn all_told(
+    alloc: Global,
+    input: &Input,
+    history: &History,
+    object: Object,
+    cases: &[(u32, &str)],
+) -> Result<bool, AllocError>
+    requires sound { IsSound input.now }
+    requires turns { (1 ≤ history.now.turns) × (history.now.turns ≤ TURNS) }
+    requires all { input.now.script.cpus * history.now.turns ≤ EVENTS }
+    requires run { IsRun input.now.script history.now.turns (reverse history.now.events) }
+{
+    for case in cases {
+        if !is_told(alloc, input, history, object, case)? {
+            return Ok(false);
+        }
+    }
+    Ok(true)
+}
+
+/// Whether all of this is told of the robin run of the script of a text.
+fn text_tells(
+    alloc: Global,
+    text: &str,
+    object: Object,
+    cases: &[(u32, &str)],
+) -> Result<bool, AllocError> {
+    if text.len() > INPUT_LIMIT {
+        return Ok(false);
+    }
+    match read(alloc, text.as_bytes()) {
+        Ok(input) => are_told(alloc, &input, object, cases),
+        Err(_) => Ok(false),
+    }
+}
+
+#[test]
+fn a_dpc_of_another_processor(rt: HostRuntime) -> Result<(), AllocError> {
+    let told = text_tells(rt.alloc(), OTHER, Object::Dpc(DpcNo(0)), &OF_MED)?;
+    assert!(rt; told);
+    Ok(())
+}
+
+#[test]
+fn an_apc_of_a_guarded_wait(rt: HostRuntime) -> Result<(), AllocError> {
+    let told = text_tells(rt.alloc(), HANG, Object::Apc(ApcNo(0)), &OF_DONE)?;
+    assert!(rt; told);
     Ok(())
 }
