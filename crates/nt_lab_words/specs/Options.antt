@@ -53,7 +53,8 @@ IsOptions o = IfSome o.turns (λ n. (1 ≤ n) × (n ≤ TURNS))
 
 -- the options with the value of one more
 abbrev pub with_value : Options → OptionName → List ℕ → Option Options
-with_value o From value = option_and_then (λ x. Some (record o { from = x })) (once o.from (number_within 0 EVENTS value))
+with_value o From value =
+    option_and_then (λ x. Some (record o { from = x })) (once o.from (number_within 0 EVENTS value))
 with_value o To value = option_and_then (λ x. Some (record o { to = x })) (once o.to (number_within 0 EVENTS value))
 with_value o Order value = option_and_then (λ x. Some (record o { order = x })) (once o.order (order_of value))
 with_value o Seed value = option_and_then (λ x. Some (record o { seed = x }))

@@ -1,5 +1,6 @@
 -- The words of the command line, without the program's name: which task they are.
-use Rattle.std.specs.Prelude.{◌≡◌, ◌∷◌, ◌&&◌, ◌||◌, ◌-◌, ◌==◌, ℕ, List, [], Option, Some, None, Bool, true, false, codes}
+use Rattle.std.specs.Prelude.{◌≡◌, ◌∷◌, ◌&&◌, ◌||◌, ◌-◌, ◌==◌, ℕ, List, [], Option, Some, None, Bool, true, false}
+use Rattle.std.specs.Prelude.{codes}
 use Rattle.std.specs.Prelude.{get_or, length, not, option_and_then, take, is_some, if◌then◌else◌, ◌≤◌, IfSome}
 use Rattle.std.specs.Str.{bytes_eq}
 use Rattle.nt_ask.specs.declared.words.Form.{Form}

@@ -1,6 +1,7 @@
 //! The options behind the word of a form.
 ghost use Rattle.std.specs.Prelude.{◌≡◌, ◌≤◌, IfSome, map, string_bytes};
-ghost use Rattle.nt_lab_words.specs.Options.{IsOptions, name_of, number_within, options_of, order_of};
+ghost use Rattle.nt_lab_words.specs.Options.{IsOptions, name_of, number_within, options_of};
+ghost use Rattle.nt_lab_words.specs.Options.{order_of};
 ghost use Rattle.nt_lab_words.specs.Options.{once, read_words, start, step, with_flag, with_value};
 
 use nt_event::limits::{EVENTS, TURNS};

@@ -4,7 +4,8 @@ ghost use Rattle.nt_lab_words.specs.Options.{IsOptions};
 ghost use Rattle.nt_event.specs.declared.limits.TheConstants.{EVENTS};
 ghost use Rattle.nt_text.specs.Fields.{number_up_to};
 ghost use Rattle.nt_lab_words.specs.Words.{IsTask, IsWork, call_of, draw_of, file_of, is_file};
-ghost use Rattle.nt_lab_words.specs.Words.{kind_of, kind_word, order_by, plain_task, run_of, task_by, task_of};
+ghost use Rattle.nt_lab_words.specs.Words.{kind_of, kind_word, order_by, plain_task, run_of};
+ghost use Rattle.nt_lab_words.specs.Words.{task_by, task_of};
 ghost use Rattle.nt_lab_words.specs.Words.{why_of, with_file};
 
 use crate::options::{Options, OrderName, options_of};
@@ -311,7 +312,8 @@ pub fn call_of(words: &[String]) -> Option<Call>
 
 /// The name of the file that the words name, where this is what they ask for.
 pub fn named_file(words: &[String], call: Call) -> Option<&str>
-    ensures { option_map (λ name. name.now) result ≡ file_of (map string_bytes words.now) (Some call) }
+    ensures { option_map (λ name. name.now) result
+        ≡ file_of (map string_bytes words.now) (Some call) }
 {
     match words {
         [.., last] if call.has_file => Some(last.as_str()),

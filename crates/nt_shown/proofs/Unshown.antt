@@ -18,6 +18,7 @@ no_line_by input part.Expectations rest first line kind u = u
 no_line_by input part.Report rest first line kind u = u
 no_line_by input part.Schedule rest first line kind u = u
 
+-- the same, by what stands behind it
 no_line : (input : Input) (strict : List ℕ) (b : Option Behind) (line : ℕ) (kind : ScriptKind) → IsUnshownIn input strict b (Script line kind) → ⊥
 no_line input strict None line kind u = u
 no_line input strict (Some b) line kind u = no_line_by input b.part (drop b.split.at strict) b.split.line line kind u

@@ -160,7 +160,8 @@ abbrev pub IsUnscheduled : Input → List ℕ → ℕ → ShownRefusal → Type 
 IsUnscheduled input bytes line (Script l kind) = ⊥
 IsUnscheduled input bytes line (Schedule l kind) = schedule_in CPUS input line bytes ≡ Err (l, kind)
 IsUnscheduled input bytes line (Report l kind) = ⊥
-IsUnscheduled input bytes line (Turn at kind) = (w : TheSchedule) × IsTextOf bytes input w × IsUnreplayed input w (Turn at kind)
+IsUnscheduled input bytes line (Turn at kind) =
+    (w : TheSchedule) × IsTextOf bytes input w × IsUnreplayed input w (Turn at kind)
 IsUnscheduled input bytes line (Event n) = ⊥
 IsUnscheduled input bytes line NoMemory = Unit {0}
 

@@ -5,7 +5,8 @@ use Rattle.std.proofs.lemmas.List.Elements.{All-nil, All-push}
 use Rattle.std.proofs.lemmas.List.Folds.{list_any-append}
 use Rattle.std.proofs.Math.Seq.{take-length}
 use Rattle.std.specs.List.{All, list_any}
-use Rattle.std.specs.Prelude.{Bool, Err, IfSome, IsTrue, List, None, Ok, OnOk, Option, Result, Some, [], false, if◌then◌else◌, length, nat_lt, not, refl, reverse, true, ℕ, ◌&&◌, ◌*◌, ◌++◌, ◌<◌}
+use Rattle.std.specs.Prelude.{Bool, Err, IfSome, IsTrue, List, None, Ok, OnOk, Option, Result, Some, [], false, if◌then◌else◌, length, nat_lt, not, refl}
+use Rattle.std.specs.Prelude.{reverse, true, ℕ, ◌&&◌, ◌*◌, ◌++◌, ◌<◌}
 use Rattle.std.specs.Prelude.{◌||◌, ◌∷◌, ◌≡◌, ◌≤◌}
 use Rattle.nt_event.specs.declared.events.Event.{Event}
 use Rattle.nt_event.specs.declared.events.ScheduleKind.{ScheduleKind}
@@ -217,7 +218,8 @@ never_all q old new e h k = record {
 
 -- one whose last insert is used up
 pub ended_all : (q : Question) (n : ℕ) (f : Fate) (old new : List Reason) → old ≡ [] → new ≡ old ++ Ended n f ∷ [] →
-    last_insert (thing_of q.object) (past_of q) ≡ Some n → fate_as f ≡ fate_of (thing_of q.object) n (past_of q) → still_waits (fate_as f) ≡ false → AreAll q new
+    last_insert (thing_of q.object) (past_of q) ≡ Some n → fate_as f ≡ fate_of (thing_of q.object) n (past_of q) → still_waits (fate_as f) ≡ false →
+    AreAll q new
 ended_all q n f old new e h k i w =
     let x = last_insert (thing_of q.object) (past_of q) in
     let head : head_of new ≡ Some (Ended n f) = ap head_of (h ∙ ap (λ (xs : List Reason). xs ++ Ended n f ∷ []) e) in
@@ -235,7 +237,8 @@ ended_all q n f old new e h k i w =
 
 -- one whose last insert waits
 pub waits_all : (q : Question) (n : ℕ) (rs : List Reason) → last_insert (thing_of q.object) (past_of q) ≡ Some n →
-    fate_of (thing_of q.object) n (past_of q) ≡ StillWaits → list_any holds_back rs ≡ not (is_free q.script.now q.turns (events_of q) q.end n q.object) → AreAll q rs
+    fate_of (thing_of q.object) n (past_of q) ≡ StillWaits → list_any holds_back rs ≡ not (is_free q.script.now q.turns (events_of q) q.end n q.object) →
+    AreAll q rs
 waits_all q n rs k i h =
     let x = last_insert (thing_of q.object) (past_of q) in
     record {

@@ -5,7 +5,8 @@ use Rattle.std.proofs.lemmas.Bool.{eqb-true}
 use Rattle.std.proofs.lemmas.List.{length-reverse, length-take-le, reverse-append, take_more}
 use Rattle.std.proofs.lemmas.Option.{get_or_from_slice_get, slice_get-get_or, slice_get_cases, slice_get_within}
 use Rattle.std.proofs.Math.Seq.{take-length}
-use Rattle.std.specs.Prelude.{Bool, Err, IfSome, List, None, Ok, Option, Result, Some, [], false, get_or, if◌then◌else◌, length, nat_lt, option_map, refl, reverse, slice_get, suc}
+use Rattle.std.specs.Prelude.{Bool, Err, IfSome, List, None, Ok, Option, Result, Some, [], false, get_or, if◌then◌else◌, length, nat_lt, option_map, refl}
+use Rattle.std.specs.Prelude.{reverse, slice_get, suc}
 use Rattle.std.specs.Prelude.{take, true, zero, ℕ, ◌&&◌, ◌++◌, ◌+◌, ◌<◌, ◌==◌, ◌∷◌, ◌≡◌, ◌≢◌, ◌≤◌, ◌⊎◌}
 use Rattle.nt_event.specs.declared.commands.Command.{Command}
 use Rattle.nt_event.specs.declared.commands.Reply.{Reply}
@@ -18,8 +19,10 @@ use Rattle.nt_event.specs.declared.events.What.TheVariants as what
 use Rattle.nt_event.specs.declared.numbers.ApcNo.{ApcNo}
 use Rattle.nt_event.specs.declared.numbers.DpcNo.{DpcNo}
 use Rattle.nt_event.specs.declared.scripts.Script.{Script}
-use Rattle.nt_event.specs.Families.{Family, ForApc, ForDpc, ForLevel, ForLock, ForOwn, ForPlain, ForRegion, ForThread, ForTimer, by_apc_family, by_dpc_family, family, in_call}
-use Rattle.nt_event.specs.Fate.{ApcThing, DpcThing, StillWaits, Thing, apc_removed, fate_by, fate_of, first_fate, inserted_thing, is_apc, thing_removed, uses_up}
+use Rattle.nt_event.specs.Families.{Family, ForApc, ForDpc, ForLevel, ForLock, ForOwn, ForPlain, ForRegion, ForThread, ForTimer, by_apc_family, by_dpc_family}
+use Rattle.nt_event.specs.Families.{family, in_call}
+use Rattle.nt_event.specs.Fate.{ApcThing, DpcThing, StillWaits, Thing, apc_removed, fate_by, fate_of, first_fate, inserted_thing, is_apc, thing_removed}
+use Rattle.nt_event.specs.Fate.{uses_up}
 use Rattle.nt_event.specs.Objects.{dpc_removed, importance_after, importance_of, is_dpc, target_after, target_of}
 use Rattle.nt_event.specs.Step.{IsLegal, IsRun, step, turn_of}
 use Rattle.nt_why.specs.declared.watch.Key.{Key}

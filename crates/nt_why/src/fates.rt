@@ -1,7 +1,8 @@
 //! The last insert of an object, and what became of it, by a walk over the events.
 ghost use Rattle.std.specs.Prelude.{◌≡◌, ◌≤◌, ◌<◌, ◌&&◌, ℕ, IfSome, if◌then◌else◌, length, nat_lt};
 ghost use Rattle.std.specs.Prelude.{Some, not, option_map};
-ghost use Rattle.nt_event.specs.Fate.{StillWaits, fate_by, fate_of as fate_in, first_fate, inserted_thing};
+ghost use Rattle.nt_event.specs.Fate.{StillWaits, fate_by, fate_of as fate_in, first_fate};
+ghost use Rattle.nt_event.specs.Fate.{inserted_thing};
 ghost use Rattle.nt_event.specs.Fate.{still_waits};
 ghost use Rattle.nt_event.specs.Fate.{thing_removed, uses_up as uses_up_of};
 ghost use Rattle.nt_event.specs.declared.events.What.TheVariants as what;

@@ -51,7 +51,8 @@ fn next_of(
     floor: &mut PlainFloor<'_>,
     p: CpuNo,
 ) -> Result<What, ScheduleKind>
-    requires { (past : List Event) × AreAfter past processors.old floor.old.script (view_of floor.old) }
+    requires { (past : List Event) ×
+        AreAfter past processors.old floor.old.script (view_of floor.old) }
     ensures { (past : List Event) →
         AreAfter past processors.old floor.old.script (view_of floor.old) →
         IsWhat (step processors.old.script processors.old.limit (Turn.Next p) past) result }

@@ -132,12 +132,14 @@ fn key_of(processors: &Processors, floor: &PlainFloor, watch: &Watch) -> Key
 
 /// Takes the turn of the event of this number, behind those before it.
 fn take(processors: &mut Processors, floor: &mut PlainFloor, events: &Briefs<'_>, number: usize)
-    requires after { AreAfter (past_at number (events_in events.now.briefs.now events.now.rises.now))
+    requires after { AreAfter
+        (past_at number (events_in events.now.briefs.now events.now.rises.now))
         processors.old floor.old.script (view_of floor.old) }
     requires run { IsRun processors.old.script processors.old.limit
         (reverse (events_in events.now.briefs.now events.now.rises.now)) }
     requires number { number < length events.now.briefs.now }
-    ensures after { AreAfter (past_at (number + 1) (events_in events.now.briefs.now events.now.rises.now))
+    ensures after { AreAfter
+        (past_at (number + 1) (events_in events.now.briefs.now events.now.rises.now))
         processors.new floor.new.script (view_of floor.new) }
     ensures script { processors.new.script ≡ processors.old.script }
     ensures limit { processors.new.limit ≡ processors.old.limit }

@@ -4,4 +4,5 @@ use Rattle.nt_lab_words.proofs.options.read_words.Given as goal
 
 -- what was read and what is left is all of it
 abbrev pub invariant-loop-word : goal.invariant-loop-word
-invariant-loop-word l = (read_words start (map string_bytes l.words) ≡ read_words l.reading (map string_bytes (drop l.word-index l.words))) × IsOptions l.reading.options
+invariant-loop-word l =
+    (read_words start (map string_bytes l.words) ≡ read_words l.reading (map string_bytes (drop l.word-index l.words))) × IsOptions l.reading.options

@@ -14,7 +14,9 @@ returns-then-is_over-clause-told c =
     let f = c.fate_of-fate.result in
     let n = c.args.at in
     on_ok (c.add.new.items.items ≡ rs ++ Ended n f ∷ []) (All (IsTold q) c.add.new.items.items) c.add.result
-    (λ h. one_told (IsTold q) (Ended n f) rs _ c.requires.none h (c.requires.at, (sym c.fate_of-fate.ensures, over f (sym c.is_over.ensures ∙ c.if-is_over.true))))
+    (λ h.
+    one_told (IsTold q) (Ended n f) rs _ c.requires.none h
+    (c.requires.at, (sym c.fate_of-fate.ensures, over f (sym c.is_over.ensures ∙ c.if-is_over.true))))
     c.add.ensures
 
 pub returns-then-is_over-clause-all : goal.returns-then-is_over-clause-all
