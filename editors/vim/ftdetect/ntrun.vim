@@ -1,0 +1,2 @@
+" Scripts of ntrun and ntlab.
+autocmd BufRead,BufNewFile *.ntrun,*.script setfiletype ntrun
