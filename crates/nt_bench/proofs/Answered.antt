@@ -10,6 +10,7 @@ use Rattle.nt_ask.specs.declared.reading.AskRefusal.TheVariants as refusal
 use Rattle.nt_ask.specs.Reading.{GivesRead, asking}
 use Rattle.nt_friendly.specs.Text.{strict_text}
 use Rattle.nt_lab.specs.Outcome.{IsReplied}
+use Rattle.nt_people.specs.declared.fault.Fault.{Fault}
 use Rattle.nt_bench.specs.declared.friendly.Friendly.{Friendly}
 use Rattle.nt_bench.specs.Asking.{IsAskedIn, IsBadLine, IsRefusedBy}
 use Rattle.nt_bench.specs.Friendly.{IsRefusalText}
@@ -41,20 +42,20 @@ answer_in (forms.Ask states) f asked exit.TooLong text is r = absurd r
 answer_in (forms.Witness number states) f asked exit.TooLong text is r = absurd r
 
 -- a message on a bad line is what is replied to it
-pub bad_line_in : (form : Form) (f : Friendly) (line : ℕ) (status : Status) (text : List ℕ) → IsBadLine (strict_text f.bytes.now) line →
-    IsRefusalText f line status text → IsAskedIn form f status text
-bad_line_in form f line exit.Ok text bad r = absurd r
-bad_line_in form f line exit.Fails text bad r = absurd r
-bad_line_in form f line exit.Unknown text bad r = absurd r
-bad_line_in form f line exit.NoExpectation text bad r = absurd r
-bad_line_in form f line exit.NoWitness text bad r = absurd r
-bad_line_in form f line exit.TooManyTurns text bad r = absurd r
-bad_line_in form f line exit.Memory text bad r = r
-bad_line_in form f line exit.Refused text bad r = (line, bad, r)
-bad_line_in form f line exit.Usage text bad r = absurd r
-bad_line_in form f line exit.Read text bad r = absurd r
-bad_line_in form f line exit.Write text bad r = absurd r
-bad_line_in form f line exit.TooLong text bad r = absurd r
+pub bad_line_in : (form : Form) (f : Friendly) (line : ℕ) (said : Fault) (status : Status) (text : List ℕ) → IsBadLine (strict_text f.bytes.now) line said →
+    IsRefusalText f line said status text → IsAskedIn form f status text
+bad_line_in form f line said exit.Ok text bad r = absurd r
+bad_line_in form f line said exit.Fails text bad r = absurd r
+bad_line_in form f line said exit.Unknown text bad r = absurd r
+bad_line_in form f line said exit.NoExpectation text bad r = absurd r
+bad_line_in form f line said exit.NoWitness text bad r = absurd r
+bad_line_in form f line said exit.TooManyTurns text bad r = absurd r
+bad_line_in form f line said exit.Memory text bad r = r
+bad_line_in form f line said exit.Refused text bad r = (line, said, bad, r)
+bad_line_in form f line said exit.Usage text bad r = absurd r
+bad_line_in form f line said exit.Read text bad r = absurd r
+bad_line_in form f line said exit.Write text bad r = absurd r
+bad_line_in form f line said exit.TooLong text bad r = absurd r
 
 -- why a text is refused, by what its reader says
 pub refused_by : (bytes : List ℕ) (r : AskRefusal) → GivesRead (refused r) (asking bytes) → IsRefusedBy bytes r

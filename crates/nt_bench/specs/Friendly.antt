@@ -5,6 +5,7 @@ use Rattle.nt_ask.specs.declared.answer.Status.{Status}
 use Rattle.nt_ask.specs.declared.answer.Status.TheVariants as exit
 use Rattle.nt_friendly.specs.Text.{line_numbers, strict_text}
 use Rattle.nt_lab.specs.Replies.{memory_line}
+use Rattle.nt_people.specs.declared.fault.Fault.{Fault}
 use Rattle.nt_people.specs.Messages.{IsMessage}
 use Rattle.nt_text.specs.declared.lines.TheConstants.{INPUT_LIMIT}
 use Rattle.nt_lab_words.specs.declared.words.Call.{Call}
@@ -28,18 +29,19 @@ pub record IsFriendly (f : Friendly) : Type 0 where
 abbrev pub source_name : Friendly → List ℕ
 source_name f = option_map_or (λ name. name.now) f.named.file (codes "standard input")
 
--- a message on this line of the strict text; or memory is wanting for one
-abbrev pub IsRefusalText : Friendly → ℕ → Status → List ℕ → Type 0
-IsRefusalText f line exit.Refused text =
-    IsMessage (source_name f) f.bytes.now (line_numbers f.bytes.now) line (strict_text f.bytes.now) text
-IsRefusalText f line exit.Memory text = text ≡ memory_line
-IsRefusalText f line exit.Ok text = ⊥
-IsRefusalText f line exit.Fails text = ⊥
-IsRefusalText f line exit.Unknown text = ⊥
-IsRefusalText f line exit.NoExpectation text = ⊥
-IsRefusalText f line exit.NoWitness text = ⊥
-IsRefusalText f line exit.TooManyTurns text = ⊥
-IsRefusalText f line exit.Usage text = ⊥
-IsRefusalText f line exit.Read text = ⊥
-IsRefusalText f line exit.Write text = ⊥
-IsRefusalText f line exit.TooLong text = ⊥
+-- a message on what is wrong with this line of the strict text; or memory is wanting for one
+abbrev pub IsRefusalText : Friendly → ℕ → Fault → Status → List ℕ → Type 0
+IsRefusalText f line said exit.Refused text =
+    IsMessage (source_name f) f.bytes.now (line_numbers f.bytes.now) line said (strict_text f.bytes.now)
+    text
+IsRefusalText f line said exit.Memory text = text ≡ memory_line
+IsRefusalText f line said exit.Ok text = ⊥
+IsRefusalText f line said exit.Fails text = ⊥
+IsRefusalText f line said exit.Unknown text = ⊥
+IsRefusalText f line said exit.NoExpectation text = ⊥
+IsRefusalText f line said exit.NoWitness text = ⊥
+IsRefusalText f line said exit.TooManyTurns text = ⊥
+IsRefusalText f line said exit.Usage text = ⊥
+IsRefusalText f line said exit.Read text = ⊥
+IsRefusalText f line said exit.Write text = ⊥
+IsRefusalText f line said exit.TooLong text = ⊥

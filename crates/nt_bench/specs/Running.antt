@@ -6,6 +6,7 @@ use Rattle.nt_friendly.specs.Text.{strict_text}
 use Rattle.nt_lab.specs.Replies.{memory_line}
 use Rattle.nt_lab_words.specs.declared.words.How.{How}
 use Rattle.nt_log.specs.Schedules.{schedule_of, schedule_text}
+use Rattle.nt_people.specs.declared.fault.Fault.TheVariants as fault
 use Rattle.nt_script.specs.Sound.{IsSound}
 use Rattle.nt_shown.specs.declared.refusal.ShownRefusal.{ShownRefusal}
 use Rattle.nt_shown.specs.declared.refusal.ShownRefusal.TheVariants as refusal
@@ -23,9 +24,9 @@ pub record IsAnyRun (r : ShownRun) : Type 0 where
 
 -- a message on the line that is refused, if one is
 abbrev pub IsToldOf : Friendly → ShownRefusal → List ℕ → Type 0
-IsToldOf f (refusal.Script line kind) text = IsRefusalText f line exit.Refused text
-IsToldOf f (refusal.Schedule line kind) text = IsRefusalText f line exit.Refused text
-IsToldOf f (refusal.Report line kind) text = IsRefusalText f line exit.Refused text
+IsToldOf f (refusal.Script line kind) text = IsRefusalText f line (fault.Script kind) exit.Refused text
+IsToldOf f (refusal.Schedule line kind) text = IsRefusalText f line (fault.Schedule kind) exit.Refused text
+IsToldOf f (refusal.Report line kind) text = IsRefusalText f line (fault.Schedule kind) exit.Refused text
 IsToldOf f (refusal.Turn at kind) text = Unit {0}
 IsToldOf f (refusal.Event n) text = Unit {0}
 IsToldOf f refusal.NoMemory text = ⊥

@@ -4,6 +4,7 @@ use Rattle.nt_ask.specs.declared.answer.Status.{Status}
 use Rattle.nt_ask.specs.declared.answer.Status.TheVariants as exit
 use Rattle.nt_friendly.specs.Text.{strict_text}
 use Rattle.nt_lab.specs.Replies.{memory_line}
+use Rattle.nt_people.specs.declared.fault.Fault.TheVariants as fault
 use Rattle.nt_script.specs.declared.reading.ScriptRefusal.{ScriptRefusal}
 use Rattle.nt_script.specs.declared.reading.ScriptRefusal.TheVariants as refusal
 use Rattle.nt_script.specs.declared.walk.Input.{Input}
@@ -37,7 +38,7 @@ IsCopy bytes exit.TooLong text = ⊥
 -- this line of the strict text is refused, and the message says so
 abbrev pub IsScriptRefused : Friendly → List ℕ → Type 0
 IsScriptRefused f text = (line : ℕ) × (kind : ScriptKind) ×
-    (reading (script_part (strict_text f.bytes.now)) ≡ Err (line, kind)) × IsRefusalText f line exit.Refused text
+    (reading (script_part (strict_text f.bytes.now)) ≡ Err (line, kind)) × IsRefusalText f line (fault.Script kind) exit.Refused text
 
 -- what is replied to `tidy`: the strict script of the text, which the reader of scripts takes; or a line is refused
 abbrev pub IsTidiedIn : Friendly → Status → List ℕ → Type 0

@@ -32,7 +32,7 @@ impl<'a> Friendly<'a> {
     /// What is replied where this line of the strict text is refused so.
     pub(crate) fn refused(&self, alloc: Global, line: u32, fault: Fault) -> Reply
         requires { IsFriendly self.now }
-        ensures { IsRefusalText self.now line result.status (text_of result.text) }
+        ensures { IsRefusalText self.now line fault result.status (text_of result.text) }
     {
         match refusal_message(alloc, self.named.file, self.bytes, self.tidied, line, fault) {
             Ok(text) => made(Status::Refused, text),

@@ -1,8 +1,11 @@
 //! Which run a text shows: of a script alone, of a schedule and of a report.
+ghost use Rattle.nt_lab_words.specs.Words.{IsHow};
+
 use crate::{ShownRefusal, shown_run};
 use nt_event::ScheduleKind;
 use nt_lab_words::{How, USUAL};
 use nt_orders::Went;
+use nt_text::INPUT_LIMIT;
 use std::alloc::{AllocError, Global};
 use std::test::Fail;
 
@@ -11,9 +14,14 @@ const SCRIPT: &str = "cpus 1\nthread main 0 body\nroutine body\nnote 1\nexit\n";
 
 /// How many events the run has that the script shows with this behind it, and how far a schedule
 /// went; or why it shows none.
-fn shown(alloc: Global, behind: &str, how: How) -> Result<(usize, Went), ShownRefusal> {
+fn shown(alloc: Global, behind: &str, how: How) -> Result<(usize, Went), ShownRefusal>
+    requires { IsHow how }
+{
     let mut text = SCRIPT.as_bytes().to_vec(alloc)?;
     text.extend_from_slice(behind.as_bytes())?;
+    if text.as_slice().len() > INPUT_LIMIT {
+        return Err(ShownRefusal::NoMemory);
+    }
     let run = shown_run(alloc, text.as_slice(), how)?;
     Ok((run.gone.history.len(), run.gone.went))
 }
