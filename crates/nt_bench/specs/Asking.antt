@@ -35,7 +35,8 @@ IsAnswerIn form f status text =
 -- what is replied to `ask` and `witness`, of a friendly text: a line is refused, or what is asked there is answered
 abbrev pub IsAskedIn : Form → Friendly → Status → List ℕ → Type 0
 IsAskedIn form f exit.Refused text =
-    (line : ℕ) × (said : Fault) × IsBadLine (strict_text f.bytes.now) line said × IsRefusalText f line said exit.Refused text
+    (line : ℕ) × (said : Fault) × IsBadLine (strict_text f.bytes.now) line said ×
+    IsRefusalText f line said exit.Refused text
 IsAskedIn form f exit.Memory text = text ≡ memory_line
 IsAskedIn form f exit.Ok text = IsAnswerIn form f exit.Ok text
 IsAskedIn form f exit.Fails text = IsAnswerIn form f exit.Fails text

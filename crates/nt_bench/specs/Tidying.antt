@@ -38,7 +38,8 @@ IsCopy bytes exit.TooLong text = ⊥
 -- this line of the strict text is refused, and the message says so
 abbrev pub IsScriptRefused : Friendly → List ℕ → Type 0
 IsScriptRefused f text = (line : ℕ) × (kind : ScriptKind) ×
-    (reading (script_part (strict_text f.bytes.now)) ≡ Err (line, kind)) × IsRefusalText f line (fault.Script kind) exit.Refused text
+    (reading (script_part (strict_text f.bytes.now)) ≡ Err (line, kind)) ×
+    IsRefusalText f line (fault.Script kind) exit.Refused text
 
 -- what is replied to `tidy`: the strict script of the text, which the reader of scripts takes; or a line is refused
 abbrev pub IsTidiedIn : Friendly → Status → List ℕ → Type 0
