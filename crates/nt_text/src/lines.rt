@@ -243,6 +243,24 @@ fn printable_row(bytes: &[u8]) -> Option<(Row, &[u8])>
     Some((Row::with_rest(first, None), rest))
 }
 
+/// The first line of a text that has bytes, and what comes behind it.
+fn first_line(text: &[u8]) -> (Line, &[u8])
+    requires { 0 < length text.now }
+    ensures { lines text.now ≡ (result.0.bytes.now, result.0.ended) ∷ lines result.1.now }
+{
+    let (bytes, rest) = cut(b'\n', text, line_end(text));
+    match rest {
+        Some(rest) => (Line { bytes, ended: true }, rest),
+        None => (
+            Line {
+                bytes,
+                ended: false,
+            },
+            &[],
+        ),
+    }
+}
+
 /// The lines of a text that are left, in order. Contracts see the list of them, each with whether
 /// it was ended.
 #[derive(Drop)]
@@ -273,27 +291,26 @@ impl<'a> Lines<'a> {
     }
 
     /// Takes the first line that is left. None exactly where none is.
+    ///
+    /// An empty line is taken without a search for its end: a text may have millions of them.
     #[inline(always)]
     pub fn next(&mut self) -> Option<Line<'a>>
         ensures line { option_map (λ l. (l.bytes.now, l.ended)) result ≡ slice_get self.old 0 }
         ensures rest { self.new ≡ drop 1 self.old }
     {
-        let text = self.rest;
-        if text.is_empty() {
-            return None;
-        }
-        let (bytes, rest) = cut(b'\n', text, line_end(text));
-        match rest {
-            Some(rest) => {
+        match self.rest {
+            [] => None,
+            [b'\n', rest @ ..] => {
                 self.rest = rest;
-                Some(Line { bytes, ended: true })
-            }
-            None => {
-                self.rest = &[];
                 Some(Line {
-                    bytes: text,
-                    ended: false,
+                    bytes: &[],
+                    ended: true,
                 })
+            }
+            text => {
+                let (line, rest) = first_line(text);
+                self.rest = rest;
+                Some(line)
             }
         }
     }
