@@ -8,6 +8,7 @@ ghost use Rattle.std.specs.Result.{result_map_both};
 ghost use Rattle.nt_text.specs.Lines.{is_byte, parts, fields, is_printable, row_of, first, needed};
 ghost use Rattle.nt_text.specs.Lines.{rest, lines, is_field};
 
+use crate::field::is_word;
 use crate::kind::ScriptKind;
 use memchr::memchr;
 use std::marker::Model;
@@ -215,6 +216,24 @@ fn behind(byte: u8, bytes: &[u8]) -> Option<&[u8]>
     }
 }
 
+/// What comes behind this head, where the bytes begin with it. A head is short, so its bytes are
+/// compared one by one.
+#[inline(always)]
+fn behind_head<'a>(head: &[u8], bytes: &'a [u8]) -> Option<&'a [u8]>
+    ensures some { IfSome result (λ rest. bytes.now ≡ head.now ++ rest.now) }
+    ensures none { IfNone result ((rest : List ℕ) → bytes.now ≢ head.now ++ rest) }
+{
+    if bytes.len() < head.len() {
+        return None;
+    }
+    let (first, rest) = bytes.split_at(head.len());
+    if is_word(first, head) {
+        Some(rest)
+    } else {
+        None
+    }
+}
+
 /// The printable bytes before the end of a line, and what comes after that end.
 #[inline(always)]
 fn printable_rest(bytes: &[u8]) -> Option<(&[u8], &[u8])>
@@ -359,7 +378,7 @@ impl<'a> Lines<'a> {
         ensures other { IfNone result ((n : ℕ) → IsShortBelow below n →
             slice_get self.old 0 ≢ Some (number_line head.now n)) }
     {
-        let behind = self.rest.strip_prefix(head)?;
+        let behind = behind_head(head, self.rest)?;
         let (number, rest) = short_number(behind)?;
         if below <= number {
             return None;

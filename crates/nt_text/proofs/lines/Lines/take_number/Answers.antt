@@ -1,8 +1,5 @@
 use Rattle.std.proofs.Common.{◌∙◌, ◌++◌, List, ℕ, ap, arith, sym}
-use Rattle.std.specs.Prelude.{None, Some}
-use Rattle.std.proofs.lemmas.Bool.Decides.{Decides-eqb}
 use Rattle.std.proofs.lemmas.List.{append_cancel_left}
-use Rattle.std.proofs.lemmas.Slice.Eq.{strip_prefix_is}
 use Rattle.nt_text.proofs.NumberLines.{decimal_and_end, number_first, number_taken}
 use Rattle.nt_text.proofs.lines.Lines.take_number.Goals as goal
 
@@ -10,14 +7,14 @@ pub returns-in_err-behind-clause-other : goal.returns-in_err-behind-clause-other
 returns-in_err-behind-clause-other c =
     let bytes = c.self.inside.rest.now in
     let head = c.args.head.now in
-    let apart = strip_prefix_is Decides-eqb bytes head None c.in_err-behind.ensures.cases in
+    let apart = c.in_err-behind.ensures.none in
     rw (c.from_residual.ensures, ← c.self.view_is) (λ n below e. let taken = number_taken bytes head n e in apart _ taken.1)
 
 pub returns-in_err-number-clause-other : goal.returns-in_err-number-clause-other
 returns-in_err-number-clause-other c =
     let bytes = c.self.inside.rest.now in
     let head = c.args.head.now in
-    let is = strip_prefix_is Decides-eqb bytes head (Some c.in_ok-behind.behind) c.in_ok-behind.ensures.cases in
+    let is = c.in_ok-behind.ensures.some in
     rw (c.from_residual-in_err-number.ensures, ← c.self.view_is) (λ n below e.
     let taken = number_taken bytes head n e in
     c.in_err-number.ensures.none n taken.0 below.0 (append_cancel_left head _ _ (sym is ∙ taken.1)))
@@ -26,7 +23,7 @@ pub returns-then-below-number-clause-other : goal.returns-then-below-number-clau
 returns-then-below-number-clause-other c =
     let bytes = c.self.inside.rest.now in
     let head = c.args.head.now in
-    let is = strip_prefix_is Decides-eqb bytes head (Some c.in_ok-behind.behind) c.in_ok-behind.ensures.cases in
+    let is = c.in_ok-behind.ensures.some in
     let some = c.in_ok-number.ensures.some in
     rw (← c.self.view_is) (λ n below e.
     let taken = number_taken bytes head n e in
@@ -40,7 +37,7 @@ pub returns-clause-some : goal.returns-clause-some
 returns-clause-some c =
     let bytes = c.self.inside.rest.now in
     let head = c.args.head.now in
-    let is = strip_prefix_is Decides-eqb bytes head (Some c.in_ok-behind.behind) c.in_ok-behind.ensures.cases in
+    let is = c.in_ok-behind.ensures.some in
     let some = c.in_ok-number.ensures.some in (
       (some.0, omega arith),
       rw (← c.self.view_is)
