@@ -1,23 +1,16 @@
--- What is written: what a search says of each expectation, or why an input is refused; and the exit statuses.
+-- What is written: what a search says of each expectation; and the exit statuses.
 use Rattle.std.specs.Prelude.{◌≡◌, ℕ, ◌+◌, Bool, true, false, List, [], ◌∷◌, ◌++◌, codes, decimal, if◌then◌else◌}
 use Rattle.std.specs.List.{join_with_byte, list_any}
 use Rattle.nt_event.specs.declared.scripts.Script.{Script}
-use Rattle.nt_text.specs.declared.kind.ScriptKind.{ScriptKind}
-use Rattle.nt_text.specs.declared.kind.ScriptKind.TheVariants.{TooMany}
-use Rattle.nt_text.specs.Kinds.{kind_name, kind_number, thing_name}
 use Rattle.nt_text.specs.Lines.{spaced}
 use Rattle.nt_line.specs.NameLists.{NameLists}
 use Rattle.nt_expect.specs.declared.expectations.Expectation.{Expectation}
-use Rattle.nt_expect.specs.declared.refusals.ExpectKind.{ExpectKind}
 use Rattle.nt_expect.specs.Expectations.{expectation_row, watched_fits, watched_row}
-use Rattle.nt_expect.specs.Kinds.{expect_name, expect_number}
 use Rattle.nt_ask.specs.declared.answer.Answer.{Answer}
 use Rattle.nt_ask.specs.declared.answer.Status.{Status}
 use Rattle.nt_ask.specs.declared.answer.Status.TheVariants as exit
 use Rattle.nt_ask.specs.declared.answer.Verdict.{Verdict}
 use Rattle.nt_ask.specs.declared.answer.Verdict.TheVariants.{Holds, HoldsWithin, HoldsWithout, FailsAt, Unknown}
-use Rattle.nt_ask.specs.declared.reading.AskRefusal.{AskRefusal}
-use Rattle.nt_ask.specs.declared.reading.AskRefusal.TheVariants as refusal
 
 -- ---- the text of an answer
 
@@ -60,29 +53,6 @@ states_line a = codes "states " ++ (decimal a.states ++ (codes " edges " ++ (dec
 -- the whole text, with the expectations numbered from 1
 abbrev pub answer_text : NameLists → List Expectation → Answer → List ℕ
 answer_text names es a = states_line a ++ verdict_lines names 1 es a.verdicts.items
-
--- ---- the line of a refusal
-
--- a kind's name, for too many things with the thing behind it
-abbrev pub kind_text : ScriptKind → List ℕ
-kind_text (TooMany thing) = kind_name (TooMany thing) ++ 32 ∷ thing_name thing
-kind_text kind = kind_name kind
-
--- the line of a refused script: the line that is bad, and the number and the text of what is wrong with it
-abbrev pub script_line : ℕ → ScriptKind → List ℕ
-script_line line kind = codes "script line "
-    ++ (decimal line ++ (codes ": " ++ (decimal (kind_number kind) ++ 32 ∷ (kind_text kind ++ 10 ∷ []))))
-
--- the line of refused expectations
-abbrev pub expect_line : ℕ → ExpectKind → List ℕ
-expect_line line kind = codes "expect line "
-    ++ (decimal line ++ (codes ": " ++ (decimal (expect_number kind) ++ 32 ∷ (expect_name kind ++ 10 ∷ []))))
-
--- what is written of an input that is not taken
-abbrev pub refusal_text : AskRefusal → List ℕ
-refusal_text (refusal.Script line kind) = script_line line kind
-refusal_text (refusal.Expect line kind) = expect_line line kind
-refusal_text refusal.NoMemory = codes "no memory\n"
 
 -- ---- the exit statuses
 

@@ -1,18 +1,15 @@
 //! What a search says of expectations, its text, and how the program ends.
-ghost use Rattle.std.specs.Prelude.{◌+◌, ◌++◌, ◌≡◌, All, IfOk, OnOk, drop, length, string_bytes};
-ghost use Rattle.std.specs.Prelude.{true};
+ghost use Rattle.std.specs.Prelude.{◌+◌, ◌++◌, ◌≡◌, All, IfOk, OnOk, drop, length, true};
 ghost use Rattle.std.specs.List.{list_any};
 ghost use Rattle.nt_expect.specs.Expectations.{expectation_fits, expectations_fit, watched_fits};
 ghost use Rattle.nt_script.specs.Sound.{IsSound};
 ghost use Rattle.nt_ask.specs.declared.answer.Verdict.TheVariants.{HoldsWithout};
-ghost use Rattle.nt_ask.specs.Answers.{VerdictFits, answer_text, cut_text, expect_line};
-ghost use Rattle.nt_ask.specs.Answers.{is_failure, is_unknown, kind_text, refusal_text};
-ghost use Rattle.nt_ask.specs.Answers.{script_line, states_line, status_number, verdict_line};
+ghost use Rattle.nt_ask.specs.Answers.{VerdictFits, answer_text, cut_text, is_failure};
+ghost use Rattle.nt_ask.specs.Answers.{is_unknown, states_line, status_number, verdict_line};
 ghost use Rattle.nt_ask.specs.Answers.{verdict_lines, verdict_status, verdict_text};
 
-use crate::reading::AskRefusal;
-use nt_expect::{ExpectKind, Expectation, Watched, put_expectation, put_watched};
-use nt_script::{Input, ScriptKind};
+use nt_expect::{Expectation, Watched, put_expectation, put_watched};
+use nt_script::Input;
 use nt_text::put_digits;
 use std::alloc::{AllocError, Global};
 
@@ -267,48 +264,4 @@ pub fn print_answer(
     put_states(&mut out, answer)?;
     put_lines(&mut out, input, expectations, answer.verdicts.as_slice())?;
     Ok(out)
-}
-
-/// A kind as it is written: its name, for too many things with the thing behind it.
-fn kind_text(alloc: Global, kind: ScriptKind) -> Result<String, AllocError>
-    ensures { IfOk result (λ s. string_bytes s ≡ kind_text kind) }
-{
-    match kind {
-        ScriptKind::TooMany(thing) => format!(in alloc; "{} {}", kind.name(), thing.name()),
-        _ => String::from_str(alloc, kind.name()),
-    }
-}
-
-/// The line of a refused script.
-fn script_line(alloc: Global, line: u32, kind: ScriptKind) -> Result<String, AllocError>
-    ensures { IfOk result (λ s. string_bytes s ≡ script_line line kind) }
-{
-    let text = kind_text(alloc, kind)?;
-    format!(in alloc; "script line {line}: {} {text}\n", kind.number())
-}
-
-/// The line of refused expectations.
-fn expect_line(alloc: Global, line: u32, kind: ExpectKind) -> Result<String, AllocError>
-    ensures { IfOk result (λ s. string_bytes s ≡ expect_line line kind) }
-{
-    format!(in alloc; "expect line {line}: {} {}\n", kind.number(), kind.name())
-}
-
-/// The line of a refusal.
-fn refusal_line(alloc: Global, refusal: AskRefusal) -> Result<String, AllocError>
-    ensures { IfOk result (λ s. string_bytes s ≡ refusal_text refusal) }
-{
-    match refusal {
-        AskRefusal::Script { line, kind } => script_line(alloc, line, kind),
-        AskRefusal::Expect { line, kind } => expect_line(alloc, line, kind),
-        AskRefusal::NoMemory => String::from_str(alloc, "no memory\n"),
-    }
-}
-
-/// The line that is written of an input that is not taken. An error is want of memory.
-pub fn refusal_text(alloc: Global, refusal: AskRefusal) -> Result<Vec<u8>, AllocError>
-    ensures { IfOk result (λ text. text.items ≡ refusal_text refusal) }
-{
-    let line = refusal_line(alloc, refusal)?;
-    Ok(line.into_bytes())
 }

@@ -3,19 +3,18 @@
 //! [`form_of`] tells which form the words of the command line are: `ask`, or `witness` with the
 //! number of an expectation, each with the greatest number of states. [`read_asked`] answers the
 //! script of an input and the expectations behind it, or the least bad line and what is wrong with
-//! it. [`print_answer`] gives the text of what a search says of each expectation, [`refusal_text`]
-//! that of a refused input, and [`verdict_status`] says how the program ends. The definitions are
-//! in `specs::Words`, `specs::Reading` and `specs::Answers`. All texts and statuses are this
-//! project's own (profile).
+//! it. [`print_answer`] gives the text of what a search says of each expectation, and
+//! [`verdict_status`] says how the program ends. The definitions are in `specs::Words`,
+//! `specs::Reading` and `specs::Answers`. All texts and statuses are this project's own (profile).
 #![tactic(auto)]
 
 mod answer;
 mod reading;
 mod words;
 
-pub use answer::{Answer, Status, Verdict, print_answer, refusal_text, verdict_status};
+pub use answer::{Answer, Status, Verdict, print_answer, verdict_status};
 pub use reading::{AskRefusal, Asked, read_asked};
-pub use words::{Form, LEAST_STATES, MOST_NUMBER, MOST_STATES, USAGE, USUAL_STATES, form_of};
+pub use words::{Form, LEAST_STATES, MOST_NUMBER, MOST_STATES, USUAL_STATES, form_of};
 
 #[cfg(test)]
 mod tests;

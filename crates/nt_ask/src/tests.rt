@@ -7,11 +7,11 @@ ghost use Rattle.nt_text.specs.declared.lines.TheConstants.{INPUT_LIMIT};
 ghost use Rattle.nt_ask.specs.Answers.{VerdictFits};
 
 use crate::{
-    Answer, Asked, Form, Status, Verdict, form_of, print_answer, read_asked, refusal_text,
+    Answer, AskRefusal, Asked, Form, Status, Verdict, form_of, print_answer, read_asked,
     verdict_status,
 };
-use nt_expect::Watched;
-use nt_text::INPUT_LIMIT;
+use nt_expect::{ExpectKind, Watched};
+use nt_text::{INPUT_LIMIT, ScriptKind, What10};
 use std::alloc::{AllocError, Global};
 use std::test::Fail;
 
@@ -21,16 +21,43 @@ const ASKED: &str = "\
     queue work\nexit\nexpect\nnever begin dpc work before note 1\nnever note 99 after note 1\n\
     always note 7\ndone\n";
 
-/// Inputs that are refused, and the line of each.
-const REFUSED: [(&str, &str); 5] = [
+/// Inputs that are refused, and why.
+const REFUSED: [(&str, AskRefusal); 5] = [
     (
         "cpus 1\nexpect\nmaybe note 1\ndone\n",
-        "expect line 3: 2 UnknownWord\n",
+        AskRefusal::Expect {
+            line: 3,
+            kind: ExpectKind::Line(ScriptKind::UnknownWord),
+        },
     ),
-    ("cpus 1\nexpect\n", "expect line 3: 11 NoEnd\n"),
-    ("cpus 1\n", "script line 2: 11 NoEnd\n"),
-    ("cpus 0\nexpect\nmaybe\n", "script line 1: 5 BadNumber\n"),
-    ("cpus 9\nexpect\ndone\n", "script line 1: 10 TooMany cpus\n"),
+    (
+        "cpus 1\nexpect\n",
+        AskRefusal::Expect {
+            line: 3,
+            kind: ExpectKind::Line(ScriptKind::NoEnd),
+        },
+    ),
+    (
+        "cpus 1\n",
+        AskRefusal::Script {
+            line: 2,
+            kind: ScriptKind::NoEnd,
+        },
+    ),
+    (
+        "cpus 0\nexpect\nmaybe\n",
+        AskRefusal::Script {
+            line: 1,
+            kind: ScriptKind::BadNumber,
+        },
+    ),
+    (
+        "cpus 9\nexpect\ndone\n",
+        AskRefusal::Script {
+            line: 1,
+            kind: ScriptKind::TooMany(What10::Cpus),
+        },
+    ),
 ];
 
 /// Words that are `ask`, and the number of states.
@@ -99,22 +126,14 @@ fn words_are_forms(rt: HostRuntime) -> Result<(), Fail> {
     Ok(())
 }
 
-/// The line of a refused input, nothing where it is taken.
-fn refused(alloc: Global, text: &str) -> Result<Vec<u8>, AllocError>
-    requires { length text.now ≤ INPUT_LIMIT }
-{
-    match read_asked(alloc, text.as_bytes()) {
-        Ok(_) => Ok(Vec::new(alloc)),
-        Err(refusal) => refusal_text(alloc, refusal),
-    }
-}
-
 #[test]
 fn the_first_bad_line_is_refused(rt: HostRuntime) -> Result<(), Fail> {
-    for (text, line) in REFUSED {
+    for (text, refusal) in REFUSED {
         assert!(rt; text.len() <= INPUT_LIMIT);
-        let found = refused(rt.alloc(), text)?;
-        assert!(rt; found.as_slice() == line.as_bytes());
+        match read_asked(rt.alloc(), text.as_bytes()) {
+            Ok(_) => assert!(rt; false),
+            Err(found) => assert!(rt; found == refusal),
+        }
     }
     Ok(())
 }

@@ -9,9 +9,6 @@ ghost use Rattle.nt_ask.specs.Words.{states_of, witness_by, witness_in, witness_
 
 use nt_text::{is_word, number};
 
-/// What is written where the words are no form.
-pub const USAGE: &str = "usage: ntlab ask|witness I [--states N]\n";
-
 /// The least number of states that may be given.
 pub const LEAST_STATES: u32 = 1_000;
 
