@@ -10,7 +10,7 @@ use Rattle.nt_text.specs.declared.kind.What10.TheVariants.{Commands, Turns}
 use Rattle.nt_expect.specs.declared.refusals.ExpectKind.{ExpectKind}
 use Rattle.nt_expect.specs.declared.refusals.ExpectKind.TheVariants as expect
 use Rattle.nt_people.specs.declared.fault.Fault.{Fault}
-use Rattle.nt_people.specs.declared.fault.Fault.TheVariants.{Script, Expect, Schedule}
+use Rattle.nt_people.specs.declared.fault.Fault.TheVariants.{Script, Expect, Report, Schedule}
 
 -- of what there are too many
 abbrev pub too_many : What10 → List ℕ
@@ -43,3 +43,4 @@ title (Script kind) = kind_title kind
 title (Expect (expect.Line kind)) = kind_title kind
 title (Expect expect.TooMany) = codes "too many expectations"
 title (Schedule kind) = kind_title kind
+title (Report kind) = kind_title kind

@@ -21,6 +21,10 @@ fn misplaced(part: TextPart) -> &'static str {
             "this word may not stand here: a schedule begins with \"schedule N\" and ends with \
              \"done\""
         }
+        TextPart::Report => {
+            "this word may not stand here: a report begins with \"report\", has a line for each \
+             event, and ends with its schedule"
+        }
     }
 }
 
@@ -67,6 +71,7 @@ fn word_advice(sort: Sort) -> &'static str {
         | Sort::NewName
         | Sort::Name(_)
         | Sort::NameOrNone(_)
+        | Sort::Reported
         | Sort::Nothing => "another word has to stand here",
     }
 }
@@ -110,6 +115,7 @@ fn number_advice(sort: Sort) -> &'static str {
         | Sort::NewName
         | Sort::Name(_)
         | Sort::NameOrNone(_)
+        | Sort::Reported
         | Sort::Nothing => "a number of this line is out of its range",
     }
 }
@@ -158,7 +164,7 @@ fn missing(sort: Sort) -> &'static str {
         Sort::NewName => "a name is missing: 1 to 16 of the signs a to z, 0 to 9 and _",
         Sort::Name(kind) => missing_name(kind),
         Sort::NameOrNone(_) => "a name is missing: write - for none",
-        Sort::Nothing => "something is missing in this line",
+        Sort::Reported | Sort::Nothing => "something is missing in this line",
         Sort::Version
         | Sort::Cpus
         | Sort::Depth
@@ -240,6 +246,7 @@ fn early_end(part: TextPart) -> &'static str {
         }
         TextPart::Expectations => "expectations end with the line \"done\"",
         TextPart::Schedule => "a schedule ends with the line \"done\"",
+        TextPart::Report => "a report ends with its schedule, and that with the line \"done\"",
     }
 }
 

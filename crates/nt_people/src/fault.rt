@@ -11,6 +11,8 @@ pub enum Fault {
     Expect(ExpectKind),
     /// The reader of schedules.
     Schedule(ScriptKind),
+    /// The reader of reports.
+    Report(ScriptKind),
 }
 
 /// Of which text a line is.
@@ -22,6 +24,8 @@ pub(crate) enum TextPart {
     Expectations,
     /// A schedule.
     Schedule,
+    /// A report.
+    Report,
 }
 
 impl Fault {
@@ -31,13 +35,14 @@ impl Fault {
             Fault::Script(_) => TextPart::Script,
             Fault::Expect(_) => TextPart::Expectations,
             Fault::Schedule(_) => TextPart::Schedule,
+            Fault::Report(_) => TextPart::Report,
         }
     }
 
     /// What is wrong with the line by itself. None where it is one expectation too many.
     pub(crate) fn kind(self) -> Option<ScriptKind> {
         match self {
-            Fault::Script(kind) | Fault::Schedule(kind) => Some(kind),
+            Fault::Script(kind) | Fault::Schedule(kind) | Fault::Report(kind) => Some(kind),
             Fault::Expect(ExpectKind::Line(kind)) => Some(kind),
             Fault::Expect(ExpectKind::TooMany) => None,
         }

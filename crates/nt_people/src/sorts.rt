@@ -34,6 +34,8 @@ pub(crate) enum Sort {
     Link,
     /// The first field of a schedule's line.
     Turn,
+    /// A field of a report's line, as a run writes it.
+    Reported,
     /// `on` or `off`.
     OnOff,
     /// `kernel` or `user`.
@@ -265,6 +267,7 @@ pub(crate) fn words(sort: Sort) -> &'static [&'static str] {
         | Sort::NewName
         | Sort::Name(_)
         | Sort::NameOrNone(_)
+        | Sort::Reported
         | Sort::Nothing => &[],
     }
 }
@@ -366,6 +369,7 @@ pub(crate) fn is_bad_number(sort: Sort, cpus: u64, field: &[u8]) -> bool {
         | Sort::NewName
         | Sort::Name(_)
         | Sort::NameOrNone(_)
+        | Sort::Reported
         | Sort::Nothing => false,
     }
 }

@@ -187,7 +187,7 @@ const SCRIPTS: [Case; 23] = [
 ];
 
 /// What the readers of expectations and of schedules may say.
-const OTHERS: [Case; 11] = [
+const OTHERS: [Case; 13] = [
     (
         "cpus 1\nexpect\nnever note 7 befor note 1\ndone\n",
         3,
@@ -266,6 +266,21 @@ const OTHERS: [Case; 11] = [
         Fault::Schedule(ScriptKind::UnknownName),
         "4:10: unknown name\n    4 | switch 0 mian\n      |          ^^^^\nno thread of this name \
          is declared; is `main` meant?\n",
+    ),
+    (
+        "cpus 1\nthread main 0 b\nreport\n0 p0 main 0 swtch main\ndone\n",
+        4,
+        Fault::Report(ScriptKind::UnknownWord),
+        "4:1: unknown word\n    4 | 0 p0 main 0 swtch main\n      | ^\nthis word may not stand \
+         here: a report begins with \"report\", has a line for each event, and ends with its \
+         schedule\n",
+    ),
+    (
+        "cpus 1\nreport\nschedule 10\nnext 1\ndone\n",
+        4,
+        Fault::Report(ScriptKind::BadNumber),
+        "4:6: no number that may stand here\n    4 | next 1\n      |      ^\nprocessors are \
+         counted from 0: write a number below that of the line \"cpus\"\n",
     ),
 ];
 

@@ -48,7 +48,7 @@ pub(crate) fn title(fault: Fault) -> &'static str
     ensures { result.now ≡ title fault }
 {
     match fault {
-        Fault::Script(kind) | Fault::Schedule(kind) => kind_title(kind),
+        Fault::Script(kind) | Fault::Schedule(kind) | Fault::Report(kind) => kind_title(kind),
         Fault::Expect(ExpectKind::Line(kind)) => kind_title(kind),
         Fault::Expect(ExpectKind::TooMany) => "too many expectations",
     }

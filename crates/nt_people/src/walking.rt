@@ -1,6 +1,6 @@
 //! A line from left to right: what may stand in each of its fields.
 use crate::fault::TextPart;
-use crate::sorts::{Sort, behind_keyword, behind_verb};
+use crate::sorts::{Sort, behind_keyword, behind_verb, is_bad_word};
 use nt_line::{Keyword, Kind, keyword_of};
 use nt_text::is_word;
 
@@ -13,6 +13,10 @@ enum Then {
     Quantifier,
     /// The first field of a schedule's line.
     Turn,
+    /// The first field of a report's line.
+    Reported,
+    /// Another field of a report's line.
+    Happened,
     /// What is said behind `never`.
     Never,
     /// What is said behind `always`.
@@ -59,6 +63,7 @@ impl Walk {
             TextPart::Script => Then::Keyword,
             TextPart::Expectations => Then::Quantifier,
             TextPart::Schedule => Then::Turn,
+            TextPart::Report => Then::Reported,
         };
         Walk {
             fields: &[],
@@ -90,6 +95,8 @@ impl Walk {
             Then::Keyword => self.take_keyword(field),
             Then::Quantifier => self.take_quantifier(field),
             Then::Turn => self.take_turn(field),
+            Then::Reported => self.take_reported(field),
+            Then::Happened => Sort::Reported,
             Then::Never => self.take_never(field),
             Then::Always => self.take_always(field),
             Then::Event => self.take_event(field, Sort::Event),
@@ -147,6 +154,15 @@ impl Walk {
             self.set(&[Sort::Cpu], Then::Seen);
         }
         Sort::Turn
+    }
+
+    /// Takes the first field of a report's line, of which the last are those of its schedule.
+    fn take_reported(&mut self, field: &[u8]) -> Sort {
+        if is_bad_word(Sort::Turn, field) {
+            self.then = Then::Happened;
+            return Sort::Reported;
+        }
+        self.take_turn(field)
     }
 
     fn take_never(&mut self, field: &[u8]) -> Sort {
