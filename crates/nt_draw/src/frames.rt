@@ -1,5 +1,5 @@
 //! The frames that are open while a run goes on: which routines have begun and not ended.
-use nt_event::{Begun, Command, CpuNo, Level, Reply, Script, ThreadNo};
+use nt_event::{ApcNo, Begun, Command, CpuNo, Level, Reply, Script, ThreadNo};
 use nt_history::{Brief, Did};
 use std::alloc::{AllocError, Global};
 
@@ -184,6 +184,38 @@ impl Frames {
         }
     }
 
+    /// What begins, on the processor's own part or in its thread.
+    fn begin(&mut self, number: u32, event: &Brief, begun: &Begun) -> Result<(), AllocError> {
+        let (kind, on_thread) = kind_of(begun);
+        let thread = if on_thread {
+            self.runs(event.cpu)
+        } else {
+            None
+        };
+        self.push(number, event, kind, thread)
+    }
+
+    /// A flushed APC begins a frame where it has a rundown routine.
+    fn flush(
+        &mut self,
+        script: &Script,
+        number: u32,
+        event: &Brief,
+        apc: ApcNo,
+    ) -> Result<(), AllocError> {
+        if script.rundown_of(apc).is_some() {
+            let thread = self.runs(event.cpu);
+            self.push(number, event, Kind::Apc, thread)?;
+        }
+        Ok(())
+    }
+
+    /// A thread that is gone has no frames.
+    fn leave(&mut self, cpu: CpuNo, thread: ThreadNo) {
+        self.open.retain(|frame| frame.thread != Some(thread));
+        self.run(cpu, None);
+    }
+
     /// What the event of this number leaves of the frames, but for levels.
     fn apply(&mut self, script: &Script, number: u32, event: &Brief) -> Result<(), AllocError> {
         match &event.did {
@@ -197,15 +229,7 @@ impl Frames {
                     self.run(event.cpu, None);
                 }
             }
-            Did::Begin { begun, .. } => {
-                let (kind, on_thread) = kind_of(begun);
-                let thread = if on_thread {
-                    self.runs(event.cpu)
-                } else {
-                    None
-                };
-                self.push(number, event, kind, thread)?;
-            }
+            Did::Begin { begun, .. } => self.begin(number, event, begun)?,
             Did::End { frame } => self.end(*frame),
             Did::Switch { thread, .. } => self.switch(number, event, *thread)?,
             Did::Rewait { reply, .. } => {
@@ -213,17 +237,8 @@ impl Frames {
                     self.run(event.cpu, None);
                 }
             }
-            Did::Flush { apc, .. } => {
-                if script.rundown_of(*apc).is_some() {
-                    let thread = self.runs(event.cpu);
-                    self.push(number, event, Kind::Apc, thread)?;
-                }
-            }
-            Did::Gone { thread } => {
-                let gone = *thread;
-                self.open.retain(|frame| frame.thread != Some(gone));
-                self.run(event.cpu, None);
-            }
+            Did::Flush { apc, .. } => self.flush(script, number, event, *apc)?,
+            Did::Gone { thread } => self.leave(event.cpu, *thread),
             Did::Look { .. }
             | Did::Normal { .. }
             | Did::Expire { .. }
