@@ -4,3 +4,4 @@ pub mod Walks
 pub mod Items
 pub mod Ending
 pub mod Left
+pub mod Lines
