@@ -1,2 +1,4 @@
 pub mod Walks
 pub mod Told
+pub mod Courses
+pub mod InterruptLines

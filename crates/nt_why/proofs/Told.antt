@@ -32,15 +32,16 @@ use Rattle.nt_cpus.proofs.Starting.{start_after}
 use Rattle.nt_why.specs.declared.fates.Fate.{Fate}
 use Rattle.nt_why.specs.declared.fates.Fate.TheVariants as fate
 use Rattle.nt_why.specs.declared.fates.Object.{Object}
-use Rattle.nt_why.specs.declared.objects.Lines.{Lines}
+use Rattle.nt_why.specs.declared.lines.Lines.{Lines}
 use Rattle.nt_why.specs.declared.question.Question.{Question}
 use Rattle.nt_why.specs.declared.reasons.Pending.{Pending}
 use Rattle.nt_why.specs.declared.reasons.Reason.{Reason}
-use Rattle.nt_why.specs.declared.reasons.Reason.TheVariants.{Ended, NeverInserted, NoNext, Then, Waits}
+use Rattle.nt_why.specs.declared.reasons.Reason.TheVariants.{Ended, NeverInserted, Next, NoNext, Then, Waits}
 use Rattle.nt_why.specs.Past.{past_at}
 use Rattle.nt_why.specs.Fates.{delivers, fate_as, last_insert, thing_of}
-use Rattle.nt_why.specs.Moments.{AreAll, AreTold, IsAt, IsTold, events_of, past_of, with_all, with_place, with_processor}
-use Rattle.nt_why.specs.Says.{AreComplete, IsWhat, Says, gives, gives_what, holds_back, is_free, maker_of, next_reason, place_of, put_to, sort_of}
+use Rattle.nt_why.specs.Lined.{AreTrue, IsWhat, next_reason, put_to, with_all, with_place, with_processor}
+use Rattle.nt_why.specs.Moments.{AreAll, IsAt, IsTold, events_of, past_of}
+use Rattle.nt_why.specs.Says.{AreComplete, Says, gives, gives_what, holds_back, is_free, maker_of, place_of, sort_of}
 
 -- fresh processors and a fresh floor are as after the empty history
 pub started : (s : Script) (turns : ℕ) (c : CpusState) (f : PlainState) → IsTrue (fits s) → turns ≤ TURNS → s.cpus * turns ≤ EVENTS →
@@ -96,20 +97,20 @@ any_put (Some r) rs = go (holds_back r) refl
 
 -- ---- all lines
 
--- all that is told is true
-pub all_told : (q : Question) (free : Bool) (x : Lines) (next : Reason) (rs : List Reason) → AreTold q x → IsTold q next → All (IsTold q) rs →
-    All (IsTold q) (with_all free x next rs)
-all_told q free x next rs h n a = go free
+-- what holds of each line, of that of the next event and of the others holds of all
+pub all_told : (P : Reason → Type 0) (free : Bool) (x : Lines) (next : Reason) (rs : List Reason) → AreTrue P x → P next → All P rs →
+    All P (with_all free x next rs)
+all_told P free x next rs h n a = go free
   where
-    lines : (b : Bool) → All (IsTold q) (with_processor b x (with_place b x rs))
+    lines : (b : Bool) → All P (with_processor b x (with_place b x rs))
     lines b =
-        all_put (IsTold q) b x.asked _ h.asked (all_put (IsTold q) b x.insert _ h.insert (all_put (IsTold q) b x.cut _ h.cut
-        (all_put (IsTold q) b x.level _ h.level (all_put (IsTold q) b x.regions _ h.regions (all_put (IsTold q) b x.runs _ h.runs
-        (all_put (IsTold q) b x.first rs h.first a))))))
+        all_put P b x.asked _ h.asked (all_put P b x.insert _ h.insert (all_put P b x.cut _ h.cut
+        (all_put P b x.level _ h.level (all_put P b x.regions _ h.regions (all_put P b x.runs _ h.runs
+        (all_put P b x.first rs h.first a))))))
 
-    go : (b : Bool) → All (IsTold q) (with_all b x next rs)
+    go : (b : Bool) → All P (with_all b x next rs)
     go true = lines true
-    go false = All-push (IsTold q) (with_processor false x (with_place false x rs)) next (lines false) n
+    go false = All-push P (with_processor false x (with_place false x rs)) next (lines false) n
 
 -- none of the lines of a free object holds it back
 any_lines : (x : Lines) (rs : List Reason) → list_any holds_back (with_processor true x (with_place true x rs)) ≡ list_any holds_back rs
@@ -134,17 +135,19 @@ pub next_holds : (p : CpuNo) (w : Result What ScheduleKind) → holds_back (next
 next_holds p (Ok w) = refl
 next_holds p (Err k) = refl
 
+-- what holds of the line of each event that a turn gives, and of each refusal, holds of the line
+pub next_true : (P : Reason → Type 0) (p : CpuNo) (r : Result Event ScheduleKind) (w : Result What ScheduleKind) →
+    ((e : Event) → r ≡ Ok e → P (Next p e.what)) → ((k : ScheduleKind) → r ≡ Err k → P (NoNext p k)) → IsWhat r w → P (next_reason p w)
+next_true P p (Ok e) (Ok w) f g h = subst (λ (x : What). P (Next p x)) h (f e refl)
+next_true P p (Err k) (Err j) f g h = subst (λ (x : ScheduleKind). P (NoNext p x)) h (g k refl)
+next_true P p (Ok e) (Err j) f g h = absurd h
+next_true P p (Err k) (Ok w) f g h = absurd h
+
 -- it is true
 pub next_told : (q : Question) (p : CpuNo) (w : Result What ScheduleKind) → IsWhat (step q.script.now q.turns (NextTurn p) (past_of q)) w →
     IsTold q (next_reason p w)
-next_told q p w h = go (step q.script.now q.turns (NextTurn p) (past_of q)) refl w h
-  where
-    go : (r : Result Event ScheduleKind) → step q.script.now q.turns (NextTurn p) (past_of q) ≡ r → (w : Result What ScheduleKind) → IsWhat r w →
-        IsTold q (next_reason p w)
-    go (Ok e) i (Ok w) h = (e, (i, h))
-    go (Err k) i (Err j) h = i ∙ ap (λ (x : ScheduleKind). Err x) h
-    go (Ok e) i (Err j) h = absurd h
-    go (Err k) i (Ok w) h = absurd h
+next_told q p w h =
+    next_true (IsTold q) p (step q.script.now q.turns (NextTurn p) (past_of q)) w (λ e i. (e, (i, refl))) (λ k i. i) h
 
 -- it delivers what it tells
 pub gives_same : (x : Thing) (n : ℕ) (r : Result Event ScheduleKind) (w : Result What ScheduleKind) → IsWhat r w → gives_what x n w ≡ gives x n r

@@ -8,27 +8,19 @@ use Rattle.std.proofs.Math.Seq.{take-length}
 use Rattle.std.specs.Prelude.{Bool, Err, IfSome, List, None, Ok, Option, Result, Some, [], false, get_or, if◌then◌else◌, length, nat_lt, option_map, refl}
 use Rattle.std.specs.Prelude.{reverse, slice_get, suc}
 use Rattle.std.specs.Prelude.{take, true, zero, ℕ, ◌&&◌, ◌++◌, ◌+◌, ◌<◌, ◌==◌, ◌∷◌, ◌≡◌, ◌≢◌, ◌≤◌, ◌⊎◌}
-use Rattle.nt_event.specs.declared.commands.Command.{Command}
-use Rattle.nt_event.specs.declared.commands.Reply.{Reply}
-use Rattle.nt_event.specs.declared.events.Begun.TheVariants as begun
 use Rattle.nt_event.specs.declared.events.Event.{Event}
 use Rattle.nt_event.specs.declared.events.ScheduleKind.{ScheduleKind}
 use Rattle.nt_event.specs.declared.events.Turn.{Turn}
-use Rattle.nt_event.specs.declared.events.What.{What}
-use Rattle.nt_event.specs.declared.events.What.TheVariants as what
-use Rattle.nt_event.specs.declared.numbers.ApcNo.{ApcNo}
 use Rattle.nt_event.specs.declared.numbers.DpcNo.{DpcNo}
 use Rattle.nt_event.specs.declared.scripts.Script.{Script}
-use Rattle.nt_event.specs.Families.{Family, ForApc, ForDpc, ForLevel, ForLock, ForOwn, ForPlain, ForRegion, ForThread, ForTimer, by_apc_family, by_dpc_family}
-use Rattle.nt_event.specs.Families.{family, in_call}
-use Rattle.nt_event.specs.Fate.{ApcThing, DpcThing, StillWaits, Thing, apc_removed, fate_by, fate_of, first_fate, inserted_thing, is_apc, thing_removed}
+use Rattle.nt_event.specs.Fate.{StillWaits, Thing, fate_by, fate_of, first_fate, inserted_thing}
 use Rattle.nt_event.specs.Fate.{uses_up}
-use Rattle.nt_event.specs.Objects.{dpc_removed, importance_after, importance_of, is_dpc, target_after, target_of}
+use Rattle.nt_event.specs.Objects.{importance_after, importance_of, target_after, target_of}
 use Rattle.nt_event.specs.Step.{IsLegal, IsRun, step, turn_of}
 use Rattle.nt_why.specs.declared.watch.Key.{Key}
 use Rattle.nt_why.specs.declared.watch.Watch.{Watch}
 use Rattle.nt_why.specs.Past.{past_at}
-use Rattle.nt_why.specs.Fates.{delivers, is_it, last_insert}
+use Rattle.nt_why.specs.Fates.{is_it, last_insert}
 use Rattle.nt_why.specs.Watches.{key_at, same_key, since}
 
 -- as many events lie before a place within the history as its number says

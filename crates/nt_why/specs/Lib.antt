@@ -2,5 +2,10 @@ pub mod Past
 pub mod Fates
 pub mod Watches
 pub mod Says
+pub mod Lined
 pub mod Moments
+pub mod Sought
+pub mod Interrupts
+pub mod Things
+pub mod Courses
 pub mod Words

@@ -1,6 +1,5 @@
 -- A question, and the machine after the first events of its history.
-use Rattle.std.specs.Prelude.{Bool, IfSome, IsTrue, List, Option, Some, [], false, length, reverse, true, ℕ, ◌*◌}
-use Rattle.std.specs.Prelude.{◌++◌, ◌<◌, ◌∷◌, ◌≡◌, ◌≤◌}
+use Rattle.std.specs.Prelude.{IsTrue, List, Option, Some, length, reverse, ℕ, ◌*◌, ◌<◌, ◌≡◌, ◌≤◌}
 use Rattle.nt_event.specs.declared.events.Event.{Event}
 use Rattle.nt_event.specs.declared.limits.TheConstants.{EVENTS, TURNS}
 use Rattle.nt_event.specs.declared.numbers.CpuNo.{CpuNo}
@@ -15,13 +14,14 @@ use Rattle.nt_cpu.specs.States.{CpuState}
 use Rattle.nt_why.specs.Past.{past_at}
 use Rattle.nt_why.specs.declared.fates.Object.{Object}
 use Rattle.nt_why.specs.declared.fates.Object.TheVariants.{Apc, Dpc}
-use Rattle.nt_why.specs.declared.objects.Lines.{Lines}
+use Rattle.nt_why.specs.declared.lines.Lines.{Lines}
 use Rattle.nt_why.specs.declared.question.Case.{Case}
 use Rattle.nt_why.specs.declared.question.Question.{Question}
 use Rattle.nt_why.specs.declared.reasons.Reason.{Reason}
 use Rattle.nt_why.specs.declared.watch.Watch.TheVariants as watch
 use Rattle.nt_why.specs.Fates.{last_insert, thing_of}
-use Rattle.nt_why.specs.Says.{AreComplete, Says, class_of, place_of, put_to}
+use Rattle.nt_why.specs.Lined.{AreTrue}
+use Rattle.nt_why.specs.Says.{AreComplete, Says, class_of, place_of}
 use Rattle.nt_why.specs.Watches.{since}
 
 -- the events of the whole history, in order, and the first of them that count, the newest first
@@ -71,24 +71,5 @@ pub record IsCase (q : Question) (p : CpuNo) (x : Case) : Type 0 where
   pub away : IsAwaySince q x.away
 
 -- each line that is told is true
-pub record AreTold (q : Question) (x : Lines) : Type 0 where
-  pub first : IfSome x.first (IsTold q)
-  pub runs : IfSome x.runs (IsTold q)
-  pub regions : IfSome x.regions (IsTold q)
-  pub level : IfSome x.level (IsTold q)
-  pub cut : IfSome x.cut (IsTold q)
-  pub insert : IfSome x.insert (IsTold q)
-  pub asked : IfSome x.asked (IsTold q)
-
--- the lines at the end of these reasons; where the object is free, none that says what holds it back
-abbrev pub with_place : Bool → Lines → List Reason → List Reason
-with_place free x rs = put_to free x.regions (put_to free x.runs (put_to free x.first rs))
-
-abbrev pub with_processor : Bool → Lines → List Reason → List Reason
-with_processor free x rs =
-    put_to free x.asked (put_to free x.insert (put_to free x.cut (put_to free x.level rs)))
-
--- and behind them, where it isn't free, that of the next event
-abbrev pub with_all : Bool → Lines → Reason → List Reason → List Reason
-with_all true x next rs = with_processor true x (with_place true x rs)
-with_all false x next rs = with_processor false x (with_place false x rs) ++ next ∷ []
+abbrev pub AreTold : Question → Lines → Type 0
+AreTold q x = AreTrue (IsTold q) x

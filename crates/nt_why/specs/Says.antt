@@ -1,8 +1,8 @@
 -- What each reason says of a thing after the first events of a history, and when the reasons are complete.
 use Rattle.std.specs.List.{list_any}
 use Rattle.std.specs.Option.{option_map_or}
-use Rattle.std.specs.Prelude.{Bool, Err, List, None, Ok, Option, Result, Some, [], false, if◌then◌else◌, nat_lt, not}
-use Rattle.std.specs.Prelude.{option_map, reverse, slice_get, true, ℕ, ◌&&◌, ◌++◌, ◌+◌, ◌<◌, ◌==◌, ◌∷◌, ◌≡◌, ◌≤◌}
+use Rattle.std.specs.Prelude.{Bool, Err, List, None, Ok, Option, Result, Some, false, if◌then◌else◌, nat_lt, not}
+use Rattle.std.specs.Prelude.{option_map, reverse, slice_get, true, ℕ, ◌&&◌, ◌+◌, ◌<◌, ◌==◌, ◌≡◌, ◌≤◌}
 use Rattle.nt_event.specs.declared.commands.ApcKind.{ApcKind}
 use Rattle.nt_event.specs.declared.commands.ApcKind.TheVariants.{Normal as NormalApc, Special as SpecialApc}
 use Rattle.nt_event.specs.declared.commands.ApcKind.TheVariants.{User as UserApc}
@@ -250,24 +250,6 @@ pub record AreComplete (s : Script) (limit : ℕ) (events : List Event) (end : �
         fate_of (thing_of x) n (past_at end events) ≡ StillWaits → list_any holds_back rs
         ≡ not (is_free s limit events end n x)
 
--- ---- lines that are told
-
--- the line at the end; where the object is free, none that says what holds it back
-abbrev pub put_to : Bool → Option Reason → List Reason → List Reason
-put_to free None rs = rs
-put_to free (Some r) rs = if free && holds_back r then rs else (rs ++ r ∷ [])
-
--- what the event that a turn gave does, or why it gave none
-abbrev pub IsWhat : Result Event ScheduleKind → Result What ScheduleKind → Type 0
-IsWhat (Ok e) (Ok w) = e.what ≡ w
-IsWhat (Err k) (Err j) = k ≡ j
-IsWhat (Ok e) (Err j) = ⊥
-IsWhat (Err k) (Ok w) = ⊥
-
 abbrev pub gives_what : Thing → ℕ → Result What ScheduleKind → Bool
 gives_what x n (Ok w) = delivers x n w
 gives_what x n (Err k) = false
-
-abbrev pub next_reason : CpuNo → Result What ScheduleKind → Reason
-next_reason p (Ok w) = Next p w
-next_reason p (Err k) = NoNext p k

@@ -1,5 +1,4 @@
 -- What is watched of a run, and since when it is as it is.
-use Rattle.std.specs.Option.{option_map_or}
 use Rattle.std.specs.Prelude.{Bool, List, None, Option, Some, [], false, if◌then◌else◌, length, option_map, true, ℕ}
 use Rattle.std.specs.Prelude.{◌&&◌, ◌<◌, ◌==◌, ◌∷◌}
 use Rattle.nt_event.specs.declared.events.Event.{Event}

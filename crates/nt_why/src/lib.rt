@@ -5,11 +5,15 @@ mod apcs;
 mod asking;
 mod fates;
 mod inserts;
+mod interrupts;
+mod lines;
 mod objects;
 mod printing;
 mod question;
 mod reasons;
+mod sought;
 mod standing;
+mod things;
 mod watch;
 mod words;
 
@@ -17,7 +21,8 @@ pub use asking::why;
 pub use fates::{Fate, Object};
 pub use printing::print_reasons;
 pub use reasons::{Away, Does, Pending, Reason, Request, Sort, Stood, Top};
-pub use words::read_thing;
+pub use things::Thing;
+pub use words::{read_interrupt, read_thing};
 
 #[cfg(test)]
 mod tests;

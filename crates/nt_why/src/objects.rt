@@ -1,68 +1,34 @@
 //! Why an object that can be inserted has not run yet.
 ghost use Rattle.std.specs.List.{All, list_any};
-ghost use Rattle.std.specs.Prelude.{◌≡◌, ◌<◌, ◌++◌, ◌∷◌, [], IfOk, List, OnOk, Some, false};
+ghost use Rattle.std.specs.Prelude.{◌≡◌, ◌<◌, ◌++◌, ◌∷◌, [], IfOk, OnOk, Some, false};
 ghost use Rattle.std.specs.Prelude.{not, true};
-ghost use Rattle.nt_event.specs.declared.events.Event.{Event};
 ghost use Rattle.nt_event.specs.declared.events.Turn.{Turn};
 ghost use Rattle.nt_event.specs.Fate.{StillWaits, fate_of as fate_in};
 ghost use Rattle.nt_event.specs.Step.{step};
 ghost use Rattle.nt_plain.specs.States.{view_of};
 ghost use Rattle.nt_cpus.specs.Following.{AreAfter};
 ghost use Rattle.nt_why.specs.Fates.{last_insert, thing_of};
+ghost use Rattle.nt_why.specs.Lined.{IsWhat, with_all};
 ghost use Rattle.nt_why.specs.Moments.{AreAll, AreTold, IsAsked, IsAt, IsAwaySince, IsCase};
-ghost use Rattle.nt_why.specs.Moments.{IsTold, with_all, with_place, with_processor};
-ghost use Rattle.nt_why.specs.Moments.{events_of, past_of};
-ghost use Rattle.nt_why.specs.Says.{IsWhat, gives, gives_what, holds_back, is_free, next_reason};
-ghost use Rattle.nt_why.specs.Says.{class_of as class_in, place_of, put_to};
+ghost use Rattle.nt_why.specs.Moments.{IsTold, events_of, past_of};
+ghost use Rattle.nt_why.specs.Says.{gives, gives_what, holds_back, is_free};
+ghost use Rattle.nt_why.specs.Says.{class_of as class_in, place_of};
 ghost use Rattle.nt_why.specs.Watches.{WatchFits, since as since_in};
 ghost use Rattle.nt_why.specs.declared.watch.Watch.{Watch as Watched};
 
 use crate::apcs::{regions_line, runs_line};
 use crate::fates::{Object, delivers, fate_of, is_over, last_insert};
 use crate::inserts::insert_of;
+use crate::lines::{Ahead, Lines, next_line, next_of, put_all};
 use crate::question::{Case, Question};
 use crate::reasons::{Reason, add};
 use crate::standing::{asked_line, class_of, cut_line, first_line, insert_line, level_line};
 use crate::watch::{Watch, cpu_of, follow};
-use nt_cpu::{Cpu, no_event};
+use nt_cpu::Cpu;
 use nt_cpus::Processors;
-use nt_event::{CpuNo, ScheduleKind, Turn, What};
+use nt_event::{CpuNo, ScheduleKind, What};
 use nt_plain::PlainFloor;
 use std::alloc::{AllocError, Global};
-
-/// Puts a line at the end; where the object is free, none that says what holds it back.
-fn put(reasons: &mut Vec<Reason>, free: bool, line: Option<Reason>) -> Result<(), AllocError>
-    ensures { OnOk result (reasons.new.items ≡ put_to free line reasons.old.items) }
-{
-    match line {
-        Some(reason) => {
-            if free && reason.holds_back() {
-                return Ok(());
-            }
-            add(reasons, reason)
-        }
-        None => Ok(()),
-    }
-}
-
-/// What the processor's next event does, or why it has none.
-fn next_of(
-    processors: &mut Processors<'_>,
-    floor: &mut PlainFloor<'_>,
-    p: CpuNo,
-) -> Result<What, ScheduleKind>
-    requires { (past : List Event) ×
-        AreAfter past processors.old floor.old.script (view_of floor.old) }
-    ensures { (past : List Event) →
-        AreAfter past processors.old floor.old.script (view_of floor.old) →
-        IsWhat (step processors.old.script processors.old.limit (Turn.Next p) past) result }
-{
-    let mut event = no_event();
-    match processors.turn(floor, &Turn::Next(p), &mut event) {
-        Ok(()) => Ok(event.what),
-        Err(refusal) => Err(refusal.kind()),
-    }
-}
 
 /// Whether that delivers the insert of this number.
 fn gives(object: Object, number: u64, next: &Result<What, ScheduleKind>) -> bool
@@ -72,32 +38,6 @@ fn gives(object: Object, number: u64, next: &Result<What, ScheduleKind>) -> bool
         Ok(what) => delivers(object, number, what),
         Err(_) => false,
     }
-}
-
-/// The line of the next event, which does not deliver the object.
-fn next_line(p: CpuNo, next: &Result<What, ScheduleKind>) -> Reason
-    ensures { result ≡ next_reason p next.now }
-{
-    match next {
-        Ok(what) => Reason::Next {
-            cpu: p,
-            what: *what,
-        },
-        Err(kind) => Reason::NoNext {
-            cpu: p,
-            kind: *kind,
-        },
-    }
-}
-
-/// What lies ahead on the processor of an insert.
-#[derive(Clone, Copy)]
-pub(crate) struct Ahead {
-    /// The number of the event that noticed the last request of the object's class; None where it
-    /// was so from the start.
-    pub noticed: Option<u64>,
-    /// What its next event does, or why it has none.
-    pub next: Result<What, ScheduleKind>,
 }
 
 /// Takes the turns of the events that count over processors and a floor that made none, and one
@@ -172,18 +112,6 @@ fn find_since(
     ))
 }
 
-/// The lines of the tests of a waiting insert, where there is something to say.
-#[derive(Clone, Copy)]
-pub(crate) struct Lines {
-    pub first: Option<Reason>,
-    pub runs: Option<Reason>,
-    pub regions: Option<Reason>,
-    pub level: Option<Reason>,
-    pub cut: Option<Reason>,
-    pub insert: Option<Reason>,
-    pub asked: Option<Reason>,
-}
-
 /// The lines of the tests.
 fn lines_of(
     question: &Question<'_>,
@@ -205,44 +133,6 @@ fn lines_of(
         insert: insert_line(question, p, cpu, floor, case.at),
         asked: asked_line(question, p, cpu, floor, case.noticed),
     }
-}
-
-/// Puts the lines of the object's own place at the end.
-fn put_place(reasons: &mut Vec<Reason>, free: bool, lines: &Lines) -> Result<(), AllocError>
-    ensures { OnOk result (reasons.new.items ≡ with_place free lines.now reasons.old.items) }
-{
-    put(reasons, free, lines.first)?;
-    put(reasons, free, lines.runs)?;
-    put(reasons, free, lines.regions)
-}
-
-/// Puts the lines of its processor at the end.
-fn put_processor(reasons: &mut Vec<Reason>, free: bool, lines: &Lines) -> Result<(), AllocError>
-    ensures { OnOk result (reasons.new.items ≡ with_processor free lines.now reasons.old.items) }
-{
-    put(reasons, free, lines.level)?;
-    put(reasons, free, lines.cut)?;
-    put(reasons, free, lines.insert)?;
-    put(reasons, free, lines.asked)
-}
-
-/// Puts the lines at the end; where the object is free, none that says what holds it back. Else the
-/// line of the next event comes behind them.
-fn put_all(
-    reasons: &mut Vec<Reason>,
-    free: bool,
-    lines: &Lines,
-    next: Reason,
-) -> Result<(), AllocError>
-    ensures { OnOk result
-        (reasons.new.items ≡ with_all free lines.now next reasons.old.items) }
-{
-    put_place(reasons, free, lines)?;
-    put_processor(reasons, free, lines)?;
-    if free {
-        return Ok(());
-    }
-    add(reasons, next)
 }
 
 /// Takes the turns of the events that count over processors and a floor that made none, and puts

@@ -5,6 +5,7 @@ ghost use Rattle.nt_script.specs.Sound.{IsSound};
 
 use crate::fates::{Fate, Object};
 use crate::reasons::{Away, Does, Pending, Reason, Request, Sort, Stood, Top};
+use crate::things::Thing;
 use nt_event::{
     ApcKind, ApcNo, Begun, Body, Command, CpuNo, DpcNo, Level, LockNo, Mode, Regions, ScheduleKind,
     ThreadNo, TimerKey, TimerNo, What,
@@ -101,6 +102,19 @@ fn put_object(out: &mut Text, input: &Input, object: Object) -> Result<(), Alloc
     }
 }
 
+fn put_thing(out: &mut Text, input: &Input, thing: &Thing) -> Result<(), AllocError>
+    requires { IsSound input.now }
+{
+    match thing {
+        Thing::Object(object) => put_object(out, input, *object),
+        Thing::Interrupt(p, level) => {
+            put_at(out, b"int ", u64::from(level.number()))?;
+            put(out, b" of ")?;
+            put_cpu(out, *p)
+        }
+    }
+}
+
 /// The word of an APC object's kind.
 fn kind_word(kind: ApcKind) -> &'static [u8] {
     match kind {
@@ -167,12 +181,12 @@ fn put_fate(out: &mut Text, fate: Fate) -> Result<(), AllocError> {
 fn put_pending(
     out: &mut Text,
     input: &Input,
-    object: Object,
+    thing: &Thing,
     insert: &Pending,
 ) -> Result<(), AllocError>
     requires { IsSound input.now }
 {
-    put_object(out, input, object)?;
+    put_thing(out, input, thing)?;
     match insert.sort {
         Sort::Dpc(importance) => {
             put(out, b" is queued on ")?;
@@ -422,10 +436,11 @@ fn put_no_next(out: &mut Text, p: CpuNo, kind: ScheduleKind) -> Result<(), Alloc
 }
 
 /// Adds that the object is the first where it waits.
-fn put_first(out: &mut Text, object: Object) -> Result<(), AllocError> {
-    match object {
-        Object::Dpc(_) => put(out, b"it is the first of its part"),
-        Object::Apc(_) => put(out, b"it is the first APC of its kind there"),
+fn put_first(out: &mut Text, thing: &Thing) -> Result<(), AllocError> {
+    match thing {
+        Thing::Object(Object::Dpc(_)) => put(out, b"it is the first of its part"),
+        Thing::Object(Object::Apc(_)) => put(out, b"it is the first APC of its kind there"),
+        Thing::Interrupt(_, _) => put(out, b"it is the first"),
     }
 }
 
@@ -439,24 +454,24 @@ fn put_asked(out: &mut Text, request: &Request, at: u64) -> Result<(), AllocErro
 fn put_reason(
     out: &mut Text,
     input: &Input,
-    object: Object,
+    thing: &Thing,
     reason: &Reason,
 ) -> Result<(), AllocError>
     requires { IsSound input.now }
 {
     match reason {
         Reason::NeverInserted => {
-            put_object(out, input, object)?;
+            put_thing(out, input, thing)?;
             put(out, b" was never inserted")
         }
         Reason::Ended { insert, fate } => {
-            put_object(out, input, object)?;
+            put_thing(out, input, thing)?;
             put_at(out, b" isn't pending: its insert at ", *insert)?;
             put(out, b" was ")?;
             put_fate(out, *fate)
         }
-        Reason::Waits(insert) => put_pending(out, input, object, insert),
-        Reason::First { .. } => put_first(out, object),
+        Reason::Waits(insert) => put_pending(out, input, thing, insert),
+        Reason::First { .. } => put_first(out, thing),
         Reason::Behind { first, at, .. } => {
             put(out, b"behind ")?;
             put_object(out, input, *first)?;
@@ -508,18 +523,13 @@ fn put_reason(
 }
 
 /// Adds the line of one reason.
-fn put_line(
-    out: &mut Text,
-    input: &Input,
-    object: Object,
-    reason: &Reason,
-) -> Result<(), AllocError>
+fn put_line(out: &mut Text, input: &Input, thing: &Thing, reason: &Reason) -> Result<(), AllocError>
     requires { IsSound input.now }
 {
     if reason.holds_back() {
         put(out, b"* ")?;
     }
-    put_reason(out, input, object, reason)?;
+    put_reason(out, input, thing, reason)?;
     put(out, b"\n")
 }
 
@@ -529,14 +539,14 @@ fn put_line(
 pub fn print_reasons(
     alloc: Global,
     input: &Input,
-    thing: Object,
+    thing: Thing,
     reasons: &[Reason],
 ) -> Result<Vec<u8>, AllocError>
     requires { IsSound input.now }
 {
     let mut out = Vec::new(alloc);
     for reason in reasons {
-        put_line(&mut out, input, thing, reason)?;
+        put_line(&mut out, input, &thing, reason)?;
     }
     Ok(out)
 }

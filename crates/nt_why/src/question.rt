@@ -1,4 +1,4 @@
-//! What is asked: why an object has not run yet, after the first events of a history.
+//! What is asked: why a thing has not run yet, after the first events of a history.
 use crate::fates::Object;
 use nt_event::Script;
 use nt_history::Briefs;
@@ -13,6 +13,17 @@ pub(crate) struct Question<'a> {
     /// How many of the events count.
     pub end: usize,
     pub object: Object,
+}
+
+/// The first events of a run, and what they are a run of.
+#[derive(Clone, Copy)]
+pub(crate) struct Course<'a> {
+    pub script: &'a Script,
+    pub events: Briefs<'a>,
+    /// How many events each processor may make.
+    pub turns: u32,
+    /// How many of the events count.
+    pub end: usize,
 }
 
 /// What the lines of a waiting insert speak of.

@@ -80,7 +80,7 @@ fn top_of(frames: &Frames) -> Option<Top>
 }
 
 /// How the processor of this number stands, since this event.
-fn stood(p: CpuNo, cpu: &Cpu<'_>, since: Option<u64>) -> Stood
+pub(crate) fn stood(p: CpuNo, cpu: &Cpu<'_>, since: Option<u64>) -> Stood
     ensures cpu { result.cpu ≡ p }
     ensures level { result.level ≡ level_at cpu.now.own }
     ensures top { result.top ≡ top_in cpu.now.own.frames }

@@ -1,13 +1,13 @@
-//! Two questions about scripts of the tutorial, and each way in which an object isn't pending. The
+//! Questions about scripts of the tutorial, and each way in which an object isn't pending. The
 //! text is worked by hand from their reports.
 ghost use Rattle.std.specs.Prelude.{◌≤◌, ◌*◌, reverse};
 ghost use Rattle.nt_event.specs.Step.{IsRun};
 ghost use Rattle.nt_script.specs.Sound.{IsSound};
 
-use crate::{Object, Reason, print_reasons, why};
+use crate::{Object, Reason, Thing, print_reasons, read_interrupt, why};
 use nt_core::run;
 use nt_event::limits::{EVENTS, TURNS};
-use nt_event::{ApcNo, DpcNo};
+use nt_event::{ApcNo, CpuNo, DpcNo, Level};
 use nt_history::History;
 use nt_script::{Input, read};
 use nt_text::INPUT_LIMIT;
@@ -121,17 +121,65 @@ then: waits at the end
 ",
 )];
 
+/// A routine of a device asks for an interrupt of a lower level, which waits for its end.
+const DISK: &str = "cpus 1
+isr 0 5 disk
+isr 0 8 net
+dpc diskdpc fin
+dpc netdpc fin
+thread main 0 body
+routine disk
+interrupt 0 4
+interrupt 0 8
+queue diskdpc
+exit
+routine net
+queue netdpc
+exit
+routine fin
+exit
+routine body
+interrupt 0 5
+note 1
+exit
+";
+
+/// What is told of the interrupt of level 4 of [`DISK`] after so many events.
+const OF_FOUR: [(u32, &str); 3] = [
+    (
+        2,
+        "* class 4 of p0 isn't asked
+then: begun at 10
+",
+    ),
+    (
+        4,
+        "* p0 is at level 5 since 2: int 5, frame 2
+class 4 of p0 was asked at 3, noticed since 3
+* next on p0 comes: call 2 interrupt 0 8
+then: begun at 10
+",
+    ),
+    (
+        10,
+        "p0 is at level 0 since 9: base main, frame 0
+class 4 of p0 was asked at 3, noticed since 3
+then: begun at 10
+",
+    ),
+];
+
 /// Whether these reasons have this text.
 fn is_text(
     alloc: Global,
     input: &Input,
-    object: Object,
+    thing: &Thing,
     reasons: &[Reason],
     wanted: &str,
 ) -> Result<bool, AllocError>
     requires { IsSound input.now }
 {
-    let text = print_reasons(alloc, input, object, reasons)?;
+    let text = print_reasons(alloc, input, *thing, reasons)?;
     Ok(text.as_slice() == wanted.as_bytes())
 }
 
@@ -140,7 +188,7 @@ fn is_told(
     alloc: Global,
     input: &Input,
     history: &History,
-    object: Object,
+    thing: &Thing,
     case: &(u32, &str),
 ) -> Result<bool, AllocError>
     requires sound { IsSound input.now }
@@ -148,24 +196,24 @@ fn is_told(
     requires all { input.now.script.cpus * history.now.turns ≤ EVENTS }
     requires run { IsRun input.now.script history.now.turns (reverse history.now.events) }
 {
-    let reasons = why(alloc, &input.script, history, case.0, object)?;
-    is_text(alloc, input, object, reasons.as_slice(), case.1)
+    let reasons = why(alloc, &input.script, history, case.0, *thing)?;
+    is_text(alloc, input, thing, reasons.as_slice(), case.1)
 }
 
-/// Whether all of this is told of the robin run of a script of two processors.
+/// Whether all of this is told of the robin run of a script of at most two processors.
 fn are_told(
     alloc: Global,
     input: &Input,
-    object: Object,
+    thing: &Thing,
     cases: &[(u32, &str)],
 ) -> Result<bool, AllocError>
     requires { IsSound input.now }
 {
-    if input.script.cpus != 2 {
+    if 2 < input.script.cpus {
         return Ok(false);
     }
     let history = run(alloc, &input.script, 10_000)?;
-    all_told(alloc, input, &history, object, cases)
+    all_told(alloc, input, &history, thing, cases)
 }
 
 /// Whether all of this is told of the history.
@@ -173,7 +221,7 @@ fn all_told(
     alloc: Global,
     input: &Input,
     history: &History,
-    object: Object,
+    thing: &Thing,
     cases: &[(u32, &str)],
 ) -> Result<bool, AllocError>
     requires sound { IsSound input.now }
@@ -182,7 +230,7 @@ fn all_told(
     requires run { IsRun input.now.script history.now.turns (reverse history.now.events) }
 {
     for case in cases {
-        if !is_told(alloc, input, history, object, case)? {
+        if !is_told(alloc, input, history, thing, case)? {
             return Ok(false);
         }
     }
@@ -193,28 +241,78 @@ fn all_told(
 fn text_tells(
     alloc: Global,
     text: &str,
-    object: Object,
+    thing: &Thing,
     cases: &[(u32, &str)],
 ) -> Result<bool, AllocError> {
     if text.len() > INPUT_LIMIT {
         return Ok(false);
     }
     match read(alloc, text.as_bytes()) {
-        Ok(input) => are_told(alloc, &input, object, cases),
+        Ok(input) => are_told(alloc, &input, thing, cases),
         Err(_) => Ok(false),
     }
 }
 
 #[test]
 fn a_dpc_of_another_processor(rt: HostRuntime) -> Result<(), AllocError> {
-    let told = text_tells(rt.alloc(), OTHER, Object::Dpc(DpcNo(0)), &OF_MED)?;
+    let told = text_tells(
+        rt.alloc(),
+        OTHER,
+        &Thing::Object(Object::Dpc(DpcNo(0))),
+        &OF_MED,
+    )?;
     assert!(rt; told);
     Ok(())
 }
 
 #[test]
 fn an_apc_of_a_guarded_wait(rt: HostRuntime) -> Result<(), AllocError> {
-    let told = text_tells(rt.alloc(), HANG, Object::Apc(ApcNo(0)), &OF_DONE)?;
+    let told = text_tells(
+        rt.alloc(),
+        HANG,
+        &Thing::Object(Object::Apc(ApcNo(0))),
+        &OF_DONE,
+    )?;
     assert!(rt; told);
+    Ok(())
+}
+
+/// Whether two words name an interrupt.
+fn is_interrupt(input: &Input, cpu: &str, level: &str) -> bool {
+    read_interrupt(input, cpu.as_bytes(), level.as_bytes()).is_some()
+}
+
+/// Whether just the words that should name an interrupt of the script of a text do.
+fn text_names(alloc: Global, text: &str) -> Result<bool, AllocError> {
+    if text.len() > INPUT_LIMIT {
+        return Ok(false);
+    }
+    match read(alloc, text.as_bytes()) {
+        Ok(input) => Ok(
+            is_interrupt(&input, "p0", "4")
+                && is_interrupt(&input, "0", "4")
+                && !is_interrupt(&input, "p1", "4")
+                && !is_interrupt(&input, "p0", "12"),
+        ),
+        Err(_) => Ok(false),
+    }
+}
+
+#[test]
+fn an_interrupt_below_the_level(rt: HostRuntime) -> Result<(), AllocError> {
+    let four = Level::new(4).unwrap_or(Level::HIGH);
+    let told = text_tells(
+        rt.alloc(),
+        DISK,
+        &Thing::Interrupt(CpuNo(0), four),
+        &OF_FOUR,
+    )?;
+    assert!(rt; told);
+    Ok(())
+}
+
+#[test]
+fn the_words_of_an_interrupt(rt: HostRuntime) -> Result<(), AllocError> {
+    assert!(rt; text_names(rt.alloc(), DISK)?);
     Ok(())
 }

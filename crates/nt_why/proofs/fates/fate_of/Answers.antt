@@ -1,4 +1,4 @@
-use Rattle.std.proofs.Common.{ap, arith, sym, ◌∙◌, ℕ}
+use Rattle.std.proofs.Common.{ap, arith, sym, ◌∙◌}
 use Rattle.std.specs.Prelude.{if◌then◌else◌, nat_lt, ◌&&◌}
 use Rattle.nt_event.specs.Fate.{Fate, StillWaits, fate_by, first_fate, uses_up}
 use Rattle.nt_history.specs.Briefs.{events_in}

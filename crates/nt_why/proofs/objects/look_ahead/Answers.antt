@@ -3,7 +3,7 @@ use Rattle.nt_event.specs.declared.events.Turn.TheVariants.{Next}
 use Rattle.nt_event.specs.declared.scripts.Script.{Script}
 use Rattle.nt_event.specs.Step.{step}
 use Rattle.nt_why.specs.Moments.{past_of}
-use Rattle.nt_why.specs.Says.{IsWhat}
+use Rattle.nt_why.specs.Lined.{IsWhat}
 use Rattle.nt_why.proofs.objects.look_ahead.Goals as goal
 
 pub returns-clause-next : goal.returns-clause-next

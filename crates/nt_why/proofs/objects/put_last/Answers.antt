@@ -1,4 +1,4 @@
-use Rattle.std.proofs.Common.{ap, sym, ◌∙◌, ◌++◌, ◌∷◌, [], ◌≡◌}
+use Rattle.std.proofs.Common.{sym, ◌∙◌, ◌++◌, ◌∷◌, [], ◌≡◌}
 use Rattle.std.specs.List.{All, list_any}
 use Rattle.std.specs.Prelude.{not}
 use Rattle.nt_why.specs.declared.reasons.Reason.TheVariants.{Ended}

@@ -1,11 +1,11 @@
-use Rattle.std.proofs.Common.{arith, ap, length, subst, sym, ◌∙◌, ◌++◌, ◌∷◌, [], ◌≡◌}
+use Rattle.std.proofs.Common.{ap, length, subst, sym, ◌∙◌, ◌++◌, ◌∷◌, [], ◌≡◌}
 use Rattle.std.proofs.lemmas.List.Elements.{All-push}
 use Rattle.std.specs.List.{All, list_any}
 use Rattle.std.specs.Prelude.{List, refl}
 use Rattle.nt_history.proofs.Lists.{as_many}
 use Rattle.nt_why.specs.declared.reasons.Reason.{Reason}
 use Rattle.nt_why.specs.declared.reasons.Reason.TheVariants.{Then}
-use Rattle.nt_why.specs.Moments.{IsTold, events_of}
+use Rattle.nt_why.specs.Moments.{IsTold}
 use Rattle.nt_why.specs.Says.{holds_back}
 use Rattle.nt_why.proofs.Told.{any_same, on_ok, then_told}
 use Rattle.nt_why.proofs.objects.put_then.Goals as goal

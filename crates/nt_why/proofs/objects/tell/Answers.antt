@@ -1,11 +1,12 @@
 use Rattle.std.proofs.Common.{ap, subst, sym, ◌∙◌}
 use Rattle.std.specs.List.{All, list_any}
-use Rattle.std.specs.Prelude.{Bool, List, not, ◌≡◌}
+use Rattle.std.specs.Prelude.{List, not, ◌≡◌}
 use Rattle.nt_event.specs.declared.events.Turn.TheVariants.{Next}
 use Rattle.nt_event.specs.Step.{step}
 use Rattle.nt_why.specs.declared.reasons.Reason.{Reason}
 use Rattle.nt_why.specs.Fates.{thing_of}
-use Rattle.nt_why.specs.Moments.{IsTold, past_of, with_all}
+use Rattle.nt_why.specs.Lined.{with_all}
+use Rattle.nt_why.specs.Moments.{IsTold, past_of}
 use Rattle.nt_why.specs.Says.{gives, holds_back}
 use Rattle.nt_why.proofs.Told.{all_held, all_told, gives_same, is_at, next_holds, next_told, on_ok}
 use Rattle.nt_why.proofs.objects.tell.Goals as goal
@@ -25,7 +26,9 @@ returns-clause-told c =
     let rs = c.args.reasons.now.items in
     let truth = subst (λ (r : Reason). IsTold q r) (sym c.next_line.ensures) (next_told q c.args.p c.args.ahead.now.next c.requires.next) in
     on_ok (c.put_all.new.reasons.items ≡ with_all c.gives.result lines next rs) (All (IsTold q) c.put_all.new.reasons.items) c.put_all.result
-    (λ h. subst (λ (xs : List Reason). All (IsTold q) xs) (sym h) (all_told q c.gives.result lines next rs c.lines_of-lines.ensures truth c.requires.told))
+    (λ h.
+    subst (λ (xs : List Reason). All (IsTold q) xs) (sym h)
+    (all_told (IsTold q) c.gives.result lines next rs c.lines_of-lines.ensures truth c.requires.told))
     c.put_all.ensures
 
 pub returns-clause-held : goal.returns-clause-held

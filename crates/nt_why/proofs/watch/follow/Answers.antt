@@ -3,7 +3,6 @@ use Rattle.nt_event.specs.declared.scripts.Script.{Script}
 use Rattle.nt_event.specs.Step.{IsRun}
 use Rattle.nt_history.specs.Briefs.{events_in}
 use Rattle.nt_history.proofs.Lists.{as_many}
-use Rattle.nt_why.specs.Watches.{WatchFits}
 use Rattle.nt_why.proofs.Walks.{since_step}
 use Rattle.nt_why.proofs.watch.follow.Goals as goal
 

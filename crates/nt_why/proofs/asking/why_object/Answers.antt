@@ -1,5 +1,5 @@
 use Rattle.nt_why.proofs.Told.{all_as, told_as}
-use Rattle.nt_why.proofs.asking.why.Goals as goal
+use Rattle.nt_why.proofs.asking.why_object.Goals as goal
 
 pub returns-clause-told : goal.returns-clause-told
 returns-clause-told c =

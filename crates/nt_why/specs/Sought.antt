@@ -1,0 +1,26 @@
+-- The first event from some number on that is sought.
+use Rattle.std.specs.Option.{option_or}
+use Rattle.std.specs.Prelude.{Bool, List, None, Option, Some, [], false, if◌then◌else◌, length, nat_le, ℕ, ◌&&◌, ◌∷◌}
+use Rattle.nt_event.specs.declared.events.Event.{Event}
+use Rattle.nt_event.specs.Families.{in_begin}
+use Rattle.nt_event.specs.Numbers.{is_of}
+use Rattle.nt_event.specs.Requests.{begins_class}
+use Rattle.nt_why.specs.declared.fates.Fate.{Fate}
+use Rattle.nt_why.specs.declared.fates.Fate.TheVariants as fate
+use Rattle.nt_why.specs.declared.sought.Sought.{Sought}
+use Rattle.nt_why.specs.declared.sought.Sought.TheVariants as sought
+
+-- the event is sought: it begins the interrupt of this level on the processor
+abbrev pub is_sought : Sought → Event → Bool
+is_sought (sought.Interrupt p l) e = is_of e p && in_begin (λ b from. begins_class l b) false e.what
+
+-- the number of the first event, from this number on, that is sought
+abbrev pub first_from : Sought → ℕ → List Event → Option ℕ
+first_from x from [] = None
+first_from x from (e ∷ past) =
+    option_or (first_from x from past) (if nat_le from (length past) && is_sought x e then Some (length past) else None)
+
+-- what became of the thing: this event began it, or it waits still
+abbrev pub begun_by : Option ℕ → Fate
+begun_by None = fate.Waits
+begun_by (Some n) = fate.Begun n

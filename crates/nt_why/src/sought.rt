@@ -1,0 +1,115 @@
+//! The first event from some number on that is sought, by a walk over the events.
+ghost use Rattle.std.specs.Option.{option_or};
+ghost use Rattle.std.specs.Prelude.{◌≡◌, ◌≤◌, ◌&&◌, None, Some, false, if◌then◌else◌, length};
+ghost use Rattle.std.specs.Prelude.{nat_le};
+ghost use Rattle.nt_event.specs.Families.{in_begin};
+ghost use Rattle.nt_event.specs.Requests.{begins_class};
+ghost use Rattle.nt_history.specs.Briefs.{events_in};
+ghost use Rattle.nt_why.specs.Past.{past_at};
+ghost use Rattle.nt_why.specs.Sought.{begun_by as begun_in, first_from as first_in};
+ghost use Rattle.nt_why.specs.Sought.{is_sought as sought_in};
+
+use crate::fates::Fate;
+use nt_event::{Begun, CpuNo, Event, Level, What};
+use nt_history::Briefs;
+
+/// What is sought among events.
+#[derive(Clone, Copy)]
+pub(crate) enum Sought {
+    /// The begin of the interrupt of this level on the processor.
+    Interrupt(CpuNo, Level),
+}
+
+/// Whether the interrupt of this level begins.
+fn is_of_level(level: Level, begun: &Begun) -> bool
+    ensures { result ≡ begins_class level begun.now }
+{
+    match begun {
+        Begun::Int(of) => of.number() == level.number(),
+        Begun::Dpc(_) | Begun::Threaded(_) | Begun::Apc(_) => false,
+    }
+}
+
+/// Whether an event begins the interrupt of this level.
+pub(crate) fn begins(level: Level, what: &What) -> bool
+    ensures { result ≡ in_begin (λ b from. begins_class level b) false what.now }
+{
+    match what {
+        What::Begin { begun, .. } => is_of_level(level, begun),
+        What::Call { .. }
+        | What::Look { .. }
+        | What::Normal { .. }
+        | What::End { .. }
+        | What::Expire { .. }
+        | What::Fire { .. }
+        | What::Clean { .. }
+        | What::Switch { .. }
+        | What::Rewait { .. }
+        | What::Flush { .. }
+        | What::Gone { .. }
+        | What::Free { .. }
+        | What::Rest => false,
+    }
+}
+
+/// Whether the event is sought.
+fn is_sought(sought: &Sought, event: &Event) -> bool
+    ensures { result ≡ sought_in sought.now event.now }
+{
+    match sought {
+        Sought::Interrupt(p, level) => event.cpu.0 == p.0 && begins(*level, &event.what),
+    }
+}
+
+/// The number of the first event that is sought after the event of this number, where it was this
+/// one before.
+fn first_after(
+    first: Option<u64>,
+    sought: &Sought,
+    from: usize,
+    at: usize,
+    event: &Event,
+) -> Option<u64>
+    ensures { result ≡ option_or first
+        (if nat_le from at && sought_in sought.now event.now then Some at else None) }
+{
+    match first {
+        Some(number) => Some(number),
+        None => {
+            if from <= at && is_sought(sought, event) {
+                Some(at as u64)
+            } else {
+                None
+            }
+        }
+    }
+}
+
+/// The number of the first of `end` events, from the number `from` on, that is sought.
+pub(crate) fn first_from(
+    events: &Briefs<'_>,
+    sought: &Sought,
+    from: usize,
+    end: usize,
+) -> Option<u64>
+    requires { end ≤ length events.now.briefs.now }
+    ensures { result ≡ first_in sought.now from
+        (past_at end (events_in events.now.briefs.now events.now.rises.now)) }
+{
+    let mut first = None;
+    for at in 0..end {
+        let event = events.event(at);
+        first = first_after(first, sought, from, at, &event);
+    }
+    first
+}
+
+/// What became of the thing: the event of this number began it, or it waits.
+pub(crate) fn begun_by(first: Option<u64>) -> Fate
+    ensures { result ≡ begun_in first }
+{
+    match first {
+        Some(number) => Fate::Begun(number),
+        None => Fate::Waits,
+    }
+}
