@@ -1,7 +1,6 @@
 -- What the workers did, and the turns of the robin rule behind it, are a settled run.
 use Rattle.std.proofs.Common.{ap, arith, inl, refl, subst, sym, ◌∙◌}
-use Rattle.std.specs.declared.alloc.AllocError.{AllocError}
-use Rattle.std.specs.Prelude.{Err, IfOk, List, Ok, Result, [], get_or, length, reverse, true, ℕ, ◌<◌, ◌∷◌, ◌≡◌}
+use Rattle.std.specs.Prelude.{List, [], get_or, length, reverse, true, ℕ, ◌<◌, ◌∷◌, ◌≡◌}
 use Rattle.nt_cpu.specs.States.{CpuState}
 use Rattle.nt_event.specs.declared.events.Event.{Event}
 use Rattle.nt_event.specs.declared.scripts.Script.{Script}

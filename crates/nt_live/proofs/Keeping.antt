@@ -1,6 +1,7 @@
 -- What stands in a worker between its turns, and what turns one after another are together.
-use Rattle.std.proofs.Common.{ap, append-nil, append_assoc, inl, inr, subst, sym, ⊎_elim, ◌∙◌}
-use Rattle.std.specs.Prelude.{List, Option, Result, Some, [], refl, true, ℕ, ◌++◌, ◌≡◌}
+use Rattle.std.proofs.Common.{ap, append-nil, append_assoc, arith, inl, inr, subst, sym, ⊎_elim, ◌∙◌}
+use Rattle.std.proofs.lemmas.List.{length-map}
+use Rattle.std.specs.Prelude.{Err, IfOk, List, Ok, Option, Result, Some, [], length, refl, true, ℕ, ◌++◌, ◌<◌, ◌≡◌}
 use Rattle.std.specs.declared.alloc.AllocError.{AllocError}
 use Rattle.atomic_table.specs.Seated.{TableId}
 use Rattle.nt_cpu.specs.States.{CpuState}
@@ -12,7 +13,10 @@ use Rattle.nt_mark.specs.declared.seats.Pass.{Pass}
 use Rattle.nt_mark.specs.declared.view.Entry.{Entry}
 use Rattle.nt_mark.specs.declared.view.Look.{Look}
 use Rattle.nt_mark.specs.Names.{pass_view}
-use Rattle.nt_live.specs.Turning.{IsAdvanced, IsSeated, IsTakenApart, made_in}
+use Rattle.nt_live.proofs.Turning.{entries_made}
+use Rattle.nt_live.specs.declared.worker.Outcome.{Outcome}
+use Rattle.nt_live.specs.declared.worker.Outcome.TheVariants.{Did, Stopped}
+use Rattle.nt_live.specs.Turning.{IsAdvanced, IsDoneWhere, IsSeated, IsTakenApart}
 use Rattle.nt_live.specs.Workers.{GoesOnFrom, HasWorked, IsWorker, LookedLast, WorkerState, pairs_of, view_in}
 
 -- passes that are equal as options are the same pass
@@ -32,6 +36,16 @@ listed_of : (table : TableId) (s : Script) (limit : ℕ) (c : CpuState) (pass : 
 listed_of table s limit c pass list p w e =
     subst (λ (x : Pass). list ≡ pairs_of (pass_view x)) (same_pass (sym w.pass_is ∙ e)) w.list_is
 
+-- where it made fewer events than it may, its list has room for one more
+pub has_room : (table : TableId) (s : Script) (limit : ℕ) (c : CpuState) (pass : Option Pass) (list : List (ℕ × Event)) (room : ℕ) →
+    IsWorker table s limit c pass list → room ≡ limit → c.own.made < limit → length list < room
+has_room table s limit c pass list room w e l =
+    let v = pass_view w.here in
+    let a = ap length w.list_is in
+    let b : length (pairs_of v) ≡ length v.entries = length-map v.entries (λ (x : Entry). (x.number, x.event)) in
+    let d = entries_made s limit c v w.work in
+    omega (arith, a, b, d, e, l)
+
 -- the parts of a worker
 pub taken_apart : (table : TableId) (s : Script) (limit : ℕ) (w : WorkerState) (c : CpuState) (pass : Option Pass) (list : List (ℕ × Event)) (p : Pass) →
     IsWorker table s limit c pass list → pass ≡ Some p → record { cpu = c; view = view_in pass } ≡ w → IsTakenApart table s limit w c p list
@@ -43,17 +57,23 @@ taken_apart table s limit w c pass list p k e v = record {
 
 -- after an advance, with the list that it leaves, the worker stands again
 pub worker_again : (table : TableId) (s : Script) (limit : ℕ) (c d : CpuState) (pass : Option Pass) (list new : List (ℕ × Event)) (p q : Pass)
-    (did : Result (Option (ℕ × Event)) AllocError) → IsWorker table s limit c pass list → pass ≡ Some p → IsAdvanced table s limit c d p q did →
-    new ≡ list ++ made_in did → IsWorker table s limit d (Some q) new
-worker_again table s limit c d pass list new p q did w e a n = record {
+    (made : List (ℕ × Event)) (outcome : Result Outcome AllocError) → IsWorker table s limit c pass list → pass ≡ Some p →
+    IsAdvanced table s limit c d p q made outcome → new ≡ list ++ made → IsWorker table s limit d (Some q) new
+worker_again table s limit c d pass list new p q made outcome w e a n = record {
   here = q;
   pass_is = refl;
   at = a.seated.at;
   listed = a.seated.listed;
-  list_is = n ∙ (ap (λ (xs : List (ℕ × Event)). xs ++ made_in did) (listed_of table s limit c pass list p w e) ∙ sym a.list);
+  list_is = n ∙ (ap (λ (xs : List (ℕ × Event)). xs ++ made) (listed_of table s limit c pass list p w e) ∙ sym a.list);
   work = a.seated.work;
   knows = a.seated.knows;
 }
+
+-- if a turn that stopped says that the work is done, so does what the turn came to
+pub done_where : (r : Result Outcome AllocError) (old new : WorkerState) → IsDoneWhere r old new → IfOk r (λ t. t ≡ Stopped → HasWorked old new)
+done_where (Ok Stopped) old new h = λ e. h
+done_where (Ok Did) old new h = λ e. absurd cc
+done_where (Err x) old new h = _
 
 -- ---- turns one after another
 

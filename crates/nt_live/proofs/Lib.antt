@@ -14,7 +14,8 @@ pub mod Doneness
 pub mod AddedTurns
 pub mod Joining
 pub mod Teaming
-pub mod Numbering
+pub mod Zipped
+pub mod Places
 pub mod Worked
 pub mod Merged
 pub mod Looks

@@ -42,13 +42,6 @@ each_once list v n is count once =
       subst (λ (xs : List ℕ). IsEachOnce n xs) (sym numbers) once,
     )
 
--- if a pass has each entry number below a count once, the list of its events has each number once
-pub once_in : (list : List (ℕ × Event)) (v : View) (n : ℕ) → list ≡ pairs_of v → n ≡ length v.entries → IsEachOnce n (entry_numbers v.entries) →
-    IsEachOnce (length list) (numbers_of list)
-once_in list v n is count once =
-    let e = each_once list v n is count once in
-    subst (λ (k : ℕ). IsEachOnce k (numbers_of list)) (sym e.0) e.1
-
 -- what closing says of a pass, of others, and of the keepers of this many lanes
 abbrev pub Shows : Pass → List Keeper → ℕ → ℕ → List Pass → Type 0
 Shows p ks n lanes others = (n ≡ length (passes p others).entries) × (IsEachOnce n (entry_numbers (passes p others).entries)
@@ -77,9 +70,9 @@ module _ (s : Script) (p : Pass) (list : List (ℕ × Event)) (ks : List Keeper)
   alone : Shows p ks n lanes []
   alone = subst (Shows p ks n lanes) none shows
 
-  -- if one pass shows all and there are no others, each number of its list stands once
-  pub once_alone : IsEachOnce (length list) (numbers_of list)
-  once_alone = let h = alone in once_in list (pass_view p) n is h.0 h.1.0
+  -- if one pass shows all and there are no others, its list has so many events, and each number once
+  pub once_alone : (n ≡ length list) × IsEachOnce n (numbers_of list)
+  once_alone = let h = alone in let e = each_once list (pass_view p) n is h.0 h.1.0 in (sym e.0, e.1)
 
   -- if one pass shows all and there are no others, its events by number are merged with the pieces of the lanes
   pub merged_alone : (table : TableId) (ps : List Piece) (es : List Event) → ArePiecesOf table ps ks → ArePlaced list es → IsMerged s (pass_view p) es ps

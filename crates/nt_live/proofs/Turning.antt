@@ -44,8 +44,10 @@ use Rattle.nt_mark.specs.Views.{entry, reach, request_word, step_word}
 use Rattle.nt_cpu.proofs.StepsMade.{needed_job}
 use Rattle.nt_live.proofs.Going.{advances_keep, alone_did, looks_keep_work, looks_never_fall}
 use Rattle.nt_live.proofs.Told.{Told, ToldLooks, look_back, looks_told, told_lists, told_looks}
+use Rattle.nt_live.specs.declared.worker.Outcome.{Outcome}
+use Rattle.nt_live.specs.declared.worker.Outcome.TheVariants.{Stopped}
 use Rattle.nt_live.specs.Going.{OnlyLooked}
-use Rattle.nt_live.specs.Turning.{IsAdvanced, IsDoneWhere, IsSeated, at_work, did_of, made_in}
+use Rattle.nt_live.specs.Turning.{IsAdvanced, IsDoneWhere, IsSeated, at_work, made_of, outcome_of}
 use Rattle.nt_live.specs.Workers.{GoesOnFrom, IsAtWork, KnowsSeen, LookedLast, all_drawn, drawn_of, pairs_of}
 
 -- ---- what an advance needs
@@ -54,6 +56,10 @@ use Rattle.nt_live.specs.Workers.{GoesOnFrom, IsAtWork, KnowsSeen, LookedLast, a
 counted : (s : Script) (p : CpuNo) (mine : List Numbered) → length (all_drawn s p mine) ≡ (own_by s p mine).made
 counted s p [] = refl
 counted s p (m ∷ past) = let a = counted s p past in let b = length-append (all_drawn s p past) (drawn_of s p m past ∷ []) in omega (arith, a, b)
+
+-- the pass of a processor at work has an entry for each event that it made
+pub entries_made : (s : Script) (limit : ℕ) (c : CpuState) (v : View) → IsAtWork s limit (record { cpu = c; view = v }) → length v.entries ≡ c.own.made
+entries_made s limit c v at = ap length at.entries ∙ (counted s c.cpu at.mine ∙ ap (λ (x : Own). x.made) (sym at.own))
 
 -- the words of its pass serve a processor at work
 pub serves_at_work : (s : Script) (limit : ℕ) (m : Marks) (c : CpuState) (v : View) → cpus_of m ≡ s.cpus → limit_of m ≡ limit →
@@ -68,14 +74,11 @@ serves_at_work s limit m c v cpus few at k = record {
   values = λ h. absurd cc;
 }
   where
-    entries : length v.entries ≡ c.own.made
-    entries = ap length at.entries ∙ (counted s c.cpu at.mine ∙ ap (λ (x : Own). x.made) (sym at.own))
-
     room : is_cut c.limit c.own ≡ false → 1 ≤ drawable_of m v
     room h =
         let a : c.own.made < c.limit = grind (arith, nat_tests) in
         let b : limit_of m * v.parts ≡ c.limit = ap (λ (x : ℕ). limit_of m * x) at.parts ∙ (let y = few in let z = at.limit_is in omega arith) in
-        let d = entries in
+        let d = entries_made s limit c v at in
         omega arith
 
 -- what the words know, the pass knows
@@ -320,12 +323,12 @@ IsTold s m o c d v w turned =
 
 -- nothing was made
 stayed : (table : TableId) (s : Script) (limit : ℕ) (m o : Marks) (c d : CpuState) (p q : Pass) (answers : List ℕ) (u : WordsView)
-    (did : Result (Option (ℕ × Event)) AllocError) → cpus_of m ≡ s.cpus → IsSeated table s limit c p → pass_table q ≡ table →
+    (made : List (ℕ × Event)) (outcome : Result Outcome AllocError) → cpus_of m ≡ s.cpus → IsSeated table s limit c p → pass_table q ≡ table →
     ∥ AreListed (pass_view q) ∥₁ → KnowsSeen d (pass_view q) → Grows (pass_view p) (pass_view q) → d ≡ c →
-    AreLooked c answers (words_of m (pass_view p)) u → IsUnmoved u (words_of o (pass_view q)) → made_in did ≡ [] →
-    IsDoneWhere did (at_work c p) (at_work c q) → IsAdvanced table s limit c d p q did
-stayed table s limit m o c d p q answers u did cpus seated at listed knows g same l n none done =
-    subst (λ (x : CpuState). KnowsSeen x (pass_view q) → IsAdvanced table s limit c x p q did) (sym same) (λ knows. record {
+    AreLooked c answers (words_of m (pass_view p)) u → IsUnmoved u (words_of o (pass_view q)) → made ≡ [] →
+    IsDoneWhere outcome (at_work c p) (at_work c q) → IsAdvanced table s limit c d p q made outcome
+stayed table s limit m o c d p q answers u made outcome cpus seated at listed knows g same l n none done =
+    subst (λ (x : CpuState). KnowsSeen x (pass_view q) → IsAdvanced table s limit c x p q made outcome) (sym same) (λ knows. record {
       seated = record { at = at; listed = listed; work = stays.work; knows = knows };
       goes = stays.goes;
       list = stays.list ∙ ap (λ (xs : List (ℕ × Event)). pairs_of (pass_view p) ++ xs) (sym none);
@@ -342,7 +345,7 @@ stayed table s limit m o c d p q answers u did cpus seated at listed knows g sam
 pub advanced : (table : TableId) (s : Script) (limit : ℕ) (m o : Marks) (c d : CpuState) (p q : Pass) (last : ℕ) (turned : Result Turned AllocError) →
     cpus_of m ≡ s.cpus → IsSeated table s limit c p → pass_table q ≡ table → ∥ AreListed (pass_view q) ∥₁ →
     Knows d (words_of o (pass_view q)) → SeatGrows 0 last (pass_view p) (pass_view q) → IsTold s m o c d (pass_view p) (pass_view q) turned →
-    IsAdvanced table s limit c d p q (did_of last turned)
+    IsAdvanced table s limit c d p q (made_of last turned) (outcome_of turned)
 unfolding IsTold
 advanced table s limit m o c d p q last (Ok (Did e)) cpus seated at listed k g t =
     let answers = t.0.0 in
@@ -367,15 +370,15 @@ advanced table s limit m o c d p q last (Ok Quiet) cpus seated at listed k g t =
     let l = t.0.2.0 in
     let a = t.0.2.1 in
     let n = unmoved_same u (words_of o (pass_view q)) a.3 in
-    stayed table s limit m o c d p q answers u (Ok None) cpus seated at listed (knows_seen o d (pass_view q) k) g.view a.2 l n refl
+    stayed table s limit m o c d p q answers u [] (Ok Stopped) cpus seated at listed (knows_seen o d (pass_view q) k) g.view a.2 l n refl
     (inr (a.1, looked_last m o c (pass_view p) (pass_view q) answers u seated.knows l n a.0))
 advanced table s limit m o c d p q last (Ok Cut) cpus seated at listed k g t =
     let answers = t.0.0 in
     let u = t.0.1 in
     let l = t.0.2.0 in
     let a = t.0.2.1 in
-    stayed table s limit m o c d p q answers u (Ok None) cpus seated at listed (knows_seen o d (pass_view q) k) g.view a.1 l
+    stayed table s limit m o c d p q answers u [] (Ok Stopped) cpus seated at listed (knows_seen o d (pass_view q) k) g.view a.1 l
     (unmoved_same u (words_of o (pass_view q)) a.2) refl (inl (cut_gives c answers a.0))
 advanced table s limit m o c d p q last (Err x) cpus seated at listed k g t =
-    stayed table s limit m o c d p q t.1.1.0 t.1.1.1 (Err x) cpus seated at listed (knows_seen o d (pass_view q) k) g.view t.1.0
+    stayed table s limit m o c d p q t.1.1.0 t.1.1.1 [] (Err x) cpus seated at listed (knows_seen o d (pass_view q) k) g.view t.1.0
     t.1.1.2.0 t.1.1.2.1 refl tt

@@ -6,5 +6,8 @@ pub mod Gathering
 pub mod Gathered
 pub mod LanePieces
 pub mod Teams
+pub mod OwnLists
+pub mod OwnListInsides
+pub mod Places
 pub mod Merging
 pub mod Rounds

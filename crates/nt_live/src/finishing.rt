@@ -38,7 +38,7 @@ fn repeat(processors: &mut Processors, floor: &mut PlainFloor, event: &Event, ma
 }
 
 /// Takes the turns of the events of a run, from its beginning.
-fn repeat_all(processors: &mut Processors, floor: &mut PlainFloor, events: &[Event])
+fn repeat_all(processors: &mut Processors, floor: &mut PlainFloor, events: &Events)
     requires start { AreAfter [] processors.old floor.old.script (view_of floor.old) }
     requires run { IsRun processors.old.script processors.old.limit (reverse events.now) }
     ensures after { AreAfter (reverse events.now) processors.new floor.new.script
@@ -46,41 +46,42 @@ fn repeat_all(processors: &mut Processors, floor: &mut PlainFloor, events: &[Eve
     ensures kept { (processors.new.script ≡ processors.old.script) ×
         (processors.new.limit ≡ processors.old.limit) }
 {
+    let list = events.lend();
     let mut made = no_event();
-    for event in events {
-        repeat(processors, floor, event, &mut made);
+    for number in 0..events.len() {
+        repeat(processors, floor, &list.event(number), &mut made);
     }
 }
 
 /// The processor of the last event; None where there is none.
-fn last_cpu(events: &[Event]) -> Option<CpuNo>
+fn last_cpu(events: &Events) -> Option<CpuNo>
     ensures { result ≡ last_of (reverse events.now) }
 {
     let count = events.len();
     if count == 0 {
         return None;
     }
-    Some(events[count - 1].cpu)
+    Some(events.lend().briefs[count - 1].cpu)
 }
 
 /// Makes the events of the robin rule until it has no turn, and puts each at the end of the list.
 fn go_on_all(
     processors: &mut Processors,
     floor: &mut PlainFloor,
-    events: &mut Vec<Event>,
+    events: &mut Events,
 ) -> Result<(), AllocError>
-    requires { AreAfter (reverse events.old.items) processors.old floor.old.script
+    requires { AreAfter (reverse events.old) processors.old floor.old.script
         (view_of floor.old) }
     ensures run { OnOk result
-        (IsRun processors.old.script processors.old.limit (reverse events.new.items)) }
+        (IsRun processors.old.script processors.old.limit (reverse events.new)) }
     ensures added { OnOk result (GoesByRobin processors.old.script processors.old.limit
-        (reverse events.old.items) (reverse events.new.items)) }
+        (reverse events.old) (reverse events.new)) }
     ensures settled { OnOk result
-        (is_settled processors.old.script processors.old.limit (reverse events.new.items) ≡ true) }
+        (is_settled processors.old.script processors.old.limit (reverse events.new) ≡ true) }
 {
     let mut made = no_event();
-    while processors.go_on(floor, last_cpu(events.as_slice()), &mut made) {
-        events.push(made)?;
+    while processors.go_on(floor, last_cpu(events), &mut made) {
+        events.push(&made)?;
     }
     Ok(())
 }
@@ -88,51 +89,50 @@ fn go_on_all(
 /// The run that goes on from these events by the robin rule to its end, made by processors and a
 /// floor that nothing happened to.
 fn finished_by(
-    alloc: Global,
     processors: &mut Processors,
     floor: &mut PlainFloor,
-    mut events: Vec<Event>,
+    mut events: Events,
 ) -> Result<History, AllocError>
     requires start { AreAfter [] processors.old floor.old.script (view_of floor.old) }
-    requires run { IsRun processors.old.script processors.old.limit (reverse events.items) }
+    requires run { IsRun processors.old.script processors.old.limit (reverse events) }
     ensures turns { IfOk result (λ h. h.turns ≡ processors.old.limit) }
     ensures run { IfOk result
         (λ h. IsRun processors.old.script processors.old.limit (reverse h.events)) }
     ensures settled { IfOk result
         (λ h. is_settled processors.old.script processors.old.limit (reverse h.events) ≡ true) }
     ensures added { IfOk result (λ h.
-        GoesByRobin processors.old.script processors.old.limit (reverse events.items)
+        GoesByRobin processors.old.script processors.old.limit (reverse events)
         (reverse h.events)) }
 {
     let turns = processors.limit();
-    repeat_all(processors, floor, events.as_slice());
+    repeat_all(processors, floor, &events);
     go_on_all(processors, floor, &mut events)?;
-    Ok(History::new(turns, Events::of(alloc, events.as_slice())?))
+    Ok(History::new(turns, events))
 }
 
 /// The run that goes on from these events by the robin rule to its end, where each processor may
 /// make this many events.
 ///
 /// The script fits, the events are a run of it, and `turns` is 1 to 20,000 and at most 160,000 in
-/// all processors together. The events of the rule are put behind the others in their list, of
-/// which the history is made at the end.
+/// all processors together. The events of the rule are put behind the others in their list, which
+/// is that of the history.
 pub(crate) fn finished(
     alloc: Global,
     script: &Script,
     turns: u32,
-    events: Vec<Event>,
+    events: Events,
 ) -> Result<History, AllocError>
     requires script { IsTrue (fits script.now) }
     requires turns { (1 ≤ turns) × (turns ≤ TURNS) }
     requires all { script.now.cpus * turns ≤ EVENTS }
-    requires run { IsRun script.now turns (reverse events.items) }
+    requires run { IsRun script.now turns (reverse events) }
     ensures turns { IfOk result (λ h. h.turns ≡ turns) }
     ensures run { IfOk result (λ h. IsRun script.now turns (reverse h.events)) }
     ensures settled { IfOk result (λ h. is_settled script.now turns (reverse h.events) ≡ true) }
     ensures added { IfOk result
-        (λ h. GoesByRobin script.now turns (reverse events.items) (reverse h.events)) }
+        (λ h. GoesByRobin script.now turns (reverse events) (reverse h.events)) }
 {
     let mut processors = Processors::new(alloc, script, turns)?;
     let mut floor = PlainFloor::new(alloc, script, turns)?;
-    finished_by(alloc, &mut processors, &mut floor, events)
+    finished_by(&mut processors, &mut floor, events)
 }

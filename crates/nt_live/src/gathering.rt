@@ -7,50 +7,29 @@ ghost use Rattle.nt_event.specs.Script.{fits};
 ghost use Rattle.nt_event.specs.Step.{IsRun};
 ghost use Rattle.nt_live.specs.Gathered.{GoesByRobin, IsGathered};
 ghost use Rattle.nt_live.specs.LanePieces.{IsGatheredWith};
-ghost use Rattle.nt_live.specs.Merging.{ArePlaced, IsMerged, numbers_of};
+ghost use Rattle.nt_live.specs.Merging.{IsMerged};
+ghost use Rattle.nt_live.specs.OwnLists.{all_pairs};
 ghost use Rattle.nt_live.specs.Teams.{AreOneEach};
 ghost use Rattle.nt_live.specs.Workers.{pairs_of};
-ghost use Rattle.nt_mark.specs.Closing.{IsEachOnce};
 ghost use Rattle.nt_mark.specs.Names.{lanes_of, parts_of, pass_table, pass_view, table_of};
 
 use crate::board::Board;
 use crate::finishing::finished;
+use crate::list::MadeList;
+use crate::merging::by_number;
 use crate::team::Team;
 use crate::worker::Worker;
-use nt_cpu::no_event;
-use nt_event::{Event, Plan, Script};
+use nt_event::{Plan, Script};
 use nt_history::{Events, History};
 use nt_lane::{Lanes, Pieces};
 use nt_lane_record::Piece;
 use nt_mark::{Marks, Pass, Shared};
 use std::alloc::{AllocError, Global};
 
-/// Puts each event of the list at its number.
-fn place(events: &mut [Event], list: &[(u64, Event)])
-    requires count { length events.old ≡ length list.now }
-    requires once { IsEachOnce (length list.now) (numbers_of list.now) }
-    ensures { ArePlaced list.now events.new }
-{
-    for at in 0..list.len() {
-        let (number, event) = list[at];
-        events[number as usize] = event;
-    }
-}
-
-/// The events in the order of their numbers, which are those below their count, each once.
-fn by_number(alloc: Global, list: &[(u64, Event)]) -> Result<Vec<Event>, AllocError>
-    requires once { IsEachOnce (length list.now) (numbers_of list.now) }
-    ensures { IfOk result (λ es. ArePlaced list.now es.items) }
-{
-    let mut events = vec![in alloc; no_event(); list.len()]?;
-    place(events.as_mut_slice(), list);
-    Ok(events)
-}
-
 /// The events of a pass in the order of their numbers, and the list of each lane.
 #[derive(Drop)]
 struct Closed {
-    events: Vec<Event>,
+    events: Events,
     pieces: Vec<Piece>,
 }
 
@@ -61,22 +40,22 @@ fn merged<'s, N: Plan + Shared>(
     marks: Marks,
     lanes: Lanes<'s, N>,
     pass: Pass,
-    list: &[(u64, Event)],
+    lists: &[MadeList],
 ) -> Result<Closed, AllocError>
     requires table { (table_of marks ≡ N.table) × (pass_table pass ≡ N.table) }
     requires lanes { lanes_of marks ≡ spec.lane_count N.script }
     requires parts { (pass_view pass).parts ≡ parts_of marks }
-    requires list { list.now ≡ pairs_of (pass_view pass) }
+    requires list { all_pairs lists.now ≡ pairs_of (pass_view pass) }
     ensures { IfOk result
-        (λ m. IsMerged N.script (pass_view pass) m.events.items m.pieces.items) }
+        (λ m. IsMerged N.script (pass_view pass) m.events m.pieces.items) }
 {
-    let Pieces { lists, keepers } = lanes.close();
-    let _drawn = marks.close(pass, Vec::new(alloc), keepers);
-    let events = by_number(alloc, list)?;
-    Ok(Closed {
-        events,
-        pieces: lists,
-    })
+    let Pieces {
+        lists: pieces,
+        keepers,
+    } = lanes.close();
+    let drawn = marks.close(pass, Vec::new(alloc), keepers);
+    let events = by_number(alloc, lists, drawn.count)?;
+    Ok(Closed { events, pieces })
 }
 
 /// The history of these events, which are a run, where that is settled; else the turns that are
@@ -86,22 +65,22 @@ fn ended(
     script: &Script,
     turns: u32,
     settled: bool,
-    events: Vec<Event>,
+    events: Events,
 ) -> Result<History, AllocError>
     requires script { IsTrue (fits script.now) }
     requires turns { (1 ≤ turns) × (turns ≤ TURNS) }
     requires all { script.now.cpus * turns ≤ EVENTS }
-    requires run { IsRun script.now turns (reverse events.items) }
+    requires run { IsRun script.now turns (reverse events) }
     requires settled { settled ≡ true →
-        is_settled script.now turns (reverse events.items) ≡ true }
+        is_settled script.now turns (reverse events) ≡ true }
     ensures turns { IfOk result (λ h. h.turns ≡ turns) }
     ensures run { IfOk result (λ h. IsRun script.now turns (reverse h.events)) }
     ensures settled { IfOk result (λ h. is_settled script.now turns (reverse h.events) ≡ true) }
     ensures added { IfOk result
-        (λ h. GoesByRobin script.now turns (reverse events.items) (reverse h.events)) }
+        (λ h. GoesByRobin script.now turns (reverse events) (reverse h.events)) }
 {
     if settled {
-        Ok(History::new(turns, Events::of(alloc, events.as_slice())?))
+        Ok(History::new(turns, events))
     } else {
         finished(alloc, script, turns, events)
     }
@@ -147,9 +126,9 @@ pub fn gather_all<'s, N: Plan + Shared>(
     let Team {
         cpus: _,
         pass,
-        list,
+        lists,
     } = team;
-    let Closed { events, pieces } = merged::<N>(alloc, marks, lanes, pass, list.as_slice())?;
+    let Closed { events, pieces } = merged::<N>(alloc, marks, lanes, pass, lists.as_slice())?;
     let history = ended(alloc, script, turns, settled, events)?;
     Ok(Gathered { history, pieces })
 }

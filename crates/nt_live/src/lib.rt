@@ -6,6 +6,8 @@ mod board;
 mod finishing;
 mod gathering;
 mod laws;
+mod list;
+mod merging;
 mod rounds;
 mod team;
 mod worker;

@@ -1,29 +1,31 @@
-//! Workers that have met: their processors, one pass for all, and one list of all events.
+//! Workers that have met: their processors, one pass for all, and the lists of their events.
 ghost use Rattle.std.specs.Prelude.{◌≡◌, ◌≤◌, ◌<◌, ◌∷◌, ◌++◌, ℕ, List, [], IfOk, OnOk, get_or};
 ghost use Rattle.std.specs.Prelude.{length, true};
 ghost use Rattle.nt_cpu.specs.States.{CpuState};
 ghost use Rattle.nt_event.specs.Classes.{is_used_class};
 ghost use Rattle.nt_event.specs.Lists.{value_at};
 ghost use Rattle.nt_event.specs.Numbers as named;
+ghost use Rattle.nt_live.specs.OwnLists.{all_pairs};
 ghost use Rattle.nt_live.specs.Teams.{AreOneEach, HasNoMore, HaveNoMore, IsTeam, HasLooked};
 ghost use Rattle.nt_live.specs.Workers.{WorkerState};
 ghost use Rattle.nt_mark.specs.Names.{cpus_of, pass_table, pass_view, table_of};
 ghost use Rattle.nt_mark.specs.Views.{reach, request_word};
 
+use crate::list::MadeList;
 use crate::worker::Worker;
 use nt_cpu::Cpu;
 use nt_event::class::is_used;
-use nt_event::{CpuNo, Event, Plan};
+use nt_event::{CpuNo, Plan};
 use nt_mark::{Marks, Pass, Shared};
 use std::alloc::{AllocError, Global};
 
 /// The processors of workers, in order, with one pass that has and knows all that theirs had and
-/// knew, and one list of their events.
+/// knew, and the lists of their events.
 #[derive(Drop)]
 pub(crate) struct Team<'s> {
     pub(crate) cpus: Vec<Cpu<'s>>,
     pub(crate) pass: Pass,
-    pub(crate) list: Vec<(u64, Event)>,
+    pub(crate) lists: Vec<MadeList>,
 }
 
 impl<'s> Team<'s> {
@@ -33,12 +35,14 @@ impl<'s> Team<'s> {
         ensures table { IfOk result (λ t. pass_table t.pass ≡ N.table) }
         ensures team { IfOk result (λ t.
             IsTeam N.script N.turns (worker.entry ∷ []) t.cpus.items
-            (pass_view t.pass) t.list.items) }
+            (pass_view t.pass) (all_pairs t.lists.items)) }
     {
         let (cpu, pass, list) = worker.into_parts();
         let mut cpus = Vec::new(alloc);
         cpus.push(cpu)?;
-        Ok(Team { cpus, pass, list })
+        let mut lists = Vec::new(alloc);
+        lists.push(list)?;
+        Ok(Team { cpus, pass, lists })
     }
 
     /// The next processor's worker meets them.
@@ -51,14 +55,14 @@ impl<'s> Team<'s> {
         ensures table { pass_table self.new.pass ≡ N.table }
         ensures joined { OnOk result ((met : List WorkerState) →
             IsTeam N.script N.turns met self.old.cpus.items (pass_view self.old.pass)
-            self.old.list.items →
+            (all_pairs self.old.lists.items) →
             worker.entry.cpu.cpu ≡ named.cpu (length met) →
             IsTeam N.script N.turns (met ++ worker.entry ∷ []) self.new.cpus.items
-            (pass_view self.new.pass) self.new.list.items) }
+            (pass_view self.new.pass) (all_pairs self.new.lists.items)) }
     {
-        let (cpu, pass, mut list) = worker.into_parts();
+        let (cpu, pass, list) = worker.into_parts();
         self.cpus.push(cpu)?;
-        self.list.append(&mut list)?;
+        self.lists.push(list)?;
         marks.meet(&mut self.pass, pass);
         Ok(())
     }
@@ -75,7 +79,7 @@ impl<'s> Team<'s> {
         ensures table { IfOk result (λ t. pass_table t.pass ≡ N.table) }
         ensures team { IfOk result (λ t.
             IsTeam N.script N.turns workers.entry.items t.cpus.items
-            (pass_view t.pass) t.list.items) }
+            (pass_view t.pass) (all_pairs t.lists.items)) }
     {
         let mut team = Team::of::<N>(alloc, workers.remove(0))?;
         for _ in 0..workers.len() {
@@ -93,7 +97,7 @@ impl<'s> Team<'s> {
             (get_or self.old.cpus.items k c).cpu ≡ named.cpu k }
         ensures table { pass_table self.new.pass ≡ pass_table self.old.pass }
         ensures same { (self.new.cpus.items ≡ self.old.cpus.items) ×
-            (self.new.list.items ≡ self.old.list.items) }
+            (self.new.lists.items ≡ self.old.lists.items) }
         ensures looked { HasLooked (pass_view self.old.pass) (pass_view self.new.pass) }
         ensures more { result ≡ true →
             HaveNoMore turns (pass_view self.old.pass) self.old.cpus.items }

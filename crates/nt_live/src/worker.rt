@@ -1,16 +1,19 @@
 //! A processor with its pass and the list of the events that it made.
-ghost use Rattle.std.specs.Prelude.{◌≡◌, ◌≤◌, [], IfOk, IsTrue, OnErr, OnOk};
+ghost use Rattle.std.specs.Prelude.{◌≡◌, ◌≤◌, ◌<◌, ◌++◌, ℕ, List, [], IfOk, IsTrue, OnOk, length};
+ghost use Rattle.nt_event.specs.declared.events.Event.{Event};
 ghost use Rattle.nt_event.specs.declared.limits.TheConstants.{TURNS};
 ghost use Rattle.nt_event.specs.Script.{fits, has_cpu};
 ghost use Rattle.nt_live.specs.Prepared.{fresh, new_worker};
-ghost use Rattle.nt_live.specs.Turning.{IsAdvanced, IsSeated, IsTakenApart, did_of};
+ghost use Rattle.nt_live.specs.Turning.{IsAdvanced, IsSeated, IsTakenApart, made_of};
+ghost use Rattle.nt_live.specs.Turning.{outcome_of};
 ghost use Rattle.nt_live.specs.Workers.{GoesOnFrom, HasWorked, WorkerState};
 ghost use Rattle.nt_live.specs.declared.worker.Outcome.{Outcome};
 ghost use Rattle.nt_mark.specs.Names.{pass_table, pass_view};
 
 use crate::board::Board;
+use crate::list::{MadeList, OwnList};
 use nt_cpu::{Cpu, Turned};
-use nt_event::{CpuNo, Event, Plan, Script};
+use nt_event::{CpuNo, Plan, Script};
 use nt_lane::LaneSeat;
 use nt_mark::{Pass, Shared};
 use nt_outside::Gate;
@@ -28,11 +31,12 @@ pub struct Worker<'s, N: Plan + Shared> {
     number: u8,
     cpu: Cpu<'s>,
     pass: Option<Pass>,
-    list: Vec<(u64, Event)>,
+    list: OwnList,
     answer: Result<(), AllocError>,
     moved: bool,
     of: PhantomData<N>,
     ghost number_is: { number ≡ cpu.cpu.0 },
+    ghost room: { list.room ≡ N.turns },
 }
 
 impl<'s, N: Plan + Shared> Model for Worker<'s, N> {
@@ -42,43 +46,7 @@ impl<'s, N: Plan + Shared> Model for Worker<'s, N> {
 
     ghost view = { λ w. record { cpu = w.cpu; view = view_in w.pass } };
 
-    ghost invariant = { λ w. IsWorker N.table N.script N.turns w.cpu w.pass w.list.items };
-}
-
-/// What an advance came to: the pass again, and the event that was made with its number, or None
-/// where the processor has none to make.
-struct Advance {
-    pass: Pass,
-    did: Result<Option<(u64, Event)>, AllocError>,
-}
-
-/// Has the processor make its next event over the lanes. It may wait. The pass is what its events
-/// made of it, and so it is again; where no memory was found, no event was made.
-fn make_next<'s, N: Plan + Shared, R: Wait>(
-    rt: &R,
-    cpu: &mut Cpu<'s>,
-    board: &Board<'_, N>,
-    pass: Pass,
-) -> Advance
-    requires seated { IsSeated N.table N.script N.turns cpu.old pass }
-    ensures { IsAdvanced N.table N.script N.turns cpu.old cpu.new pass result.pass result.did }
-{
-    let mut seat = LaneSeat::new(rt, &board.lanes, &board.marks, pass);
-    let turned = cpu.advance(&mut seat);
-    let did = did(seat.last(), turned);
-    let pass = seat.leave();
-    Advance { pass, did }
-}
-
-/// What an advance came to, where this number was drawn last.
-fn did(last: u64, turned: Result<Turned, AllocError>) -> Result<Option<(u64, Event)>, AllocError>
-    ensures { result ≡ did_of last turned }
-{
-    match turned {
-        Ok(Turned::Did(event)) => Ok(Some((last, event))),
-        Ok(Turned::Quiet) | Ok(Turned::Cut) => Ok(None),
-        Err(error) => Err(error),
-    }
+    ghost invariant = { λ w. IsWorker N.table N.script N.turns w.cpu w.pass w.list.pairs };
 }
 
 /// What a turn of a worker came to.
@@ -88,6 +56,57 @@ pub(crate) enum Outcome {
     Did,
     /// The processor rests or spins still with nothing asked, or is cut.
     Stopped,
+}
+
+/// What an advance came to, with the pass again.
+struct Advance {
+    pass: Pass,
+    outcome: Result<Outcome, AllocError>,
+}
+
+/// Has the processor make its next event over the lanes, and puts it on the list with its number.
+/// It may wait. The pass is what its events made of it, and so it is again; where no memory was
+/// found, no event was made. There is room for an event on the list.
+fn make_next<'s, N: Plan + Shared, R: Wait>(
+    rt: &R,
+    cpu: &mut Cpu<'s>,
+    board: &Board<'_, N>,
+    pass: Pass,
+    list: &mut OwnList,
+) -> Advance
+    requires seated { IsSeated N.table N.script N.turns cpu.old pass }
+    requires room { length list.old.pairs < list.old.room }
+    ensures { (made : List (ℕ × Event)) ×
+        IsAdvanced N.table N.script N.turns cpu.old cpu.new pass result.pass made result.outcome ×
+        (list.new ≡ record list.old { pairs = list.old.pairs ++ made }) }
+{
+    let mut seat = LaneSeat::new(rt, &board.lanes, &board.marks, pass);
+    let turned = cpu.advance(&mut seat);
+    let outcome = keep(list, seat.last(), &turned);
+    let pass = seat.leave();
+    Advance { pass, outcome }
+}
+
+/// Puts what an advance came to on the list, where this number was drawn last. There is room for
+/// it.
+fn keep(
+    list: &mut OwnList,
+    last: u64,
+    turned: &Result<Turned, AllocError>,
+) -> Result<Outcome, AllocError>
+    requires { length list.old.pairs < list.old.room }
+    ensures list { list.new
+        ≡ record list.old { pairs = list.old.pairs ++ made_of last turned.now } }
+    ensures outcome { result ≡ outcome_of turned.now }
+{
+    match turned {
+        Ok(Turned::Did(event)) => {
+            list.put(last, event);
+            Ok(Outcome::Did)
+        }
+        Ok(Turned::Quiet) | Ok(Turned::Cut) => Ok(Outcome::Stopped),
+        Err(_) => Err(AllocError),
+    }
 }
 
 impl<'s, N: Plan + Shared> Worker<'s, N> {
@@ -110,7 +129,7 @@ impl<'s, N: Plan + Shared> Worker<'s, N> {
             number: cpu.0,
             cpu: Cpu::new(alloc, script, cpu, turns)?,
             pass: Some(pass),
-            list: Vec::new(alloc),
+            list: OwnList::new(alloc, turns as usize)?,
             answer: Ok(()),
             moved: false,
             of: PhantomData,
@@ -132,19 +151,15 @@ impl<'s, N: Plan + Shared> Worker<'s, N> {
         ensures goes { GoesOnFrom self.old self.new }
         ensures stopped { IfOk result (λ t. t ≡ Outcome.Stopped → HasWorked self.old self.new) }
     {
-        self.list.reserve(1)?;
+        if board.turns <= self.cpu.made() {
+            return Ok(Outcome::Stopped);
+        }
         let Some(pass) = self.pass.take() else {
             unreachable!()
         };
-        let Advance { pass, did } = make_next(rt, &mut self.cpu, board, pass);
+        let Advance { pass, outcome } = make_next(rt, &mut self.cpu, board, pass, &mut self.list);
         self.pass = Some(pass);
-        match did? {
-            Some(made) => {
-                self.list.push_reserved(made);
-                Ok(Outcome::Did)
-            }
-            None => Ok(Outcome::Stopped),
-        }
+        outcome
     }
 
     /// Works again, and keeps the answer.
@@ -170,9 +185,9 @@ impl<'s, N: Plan + Shared> Worker<'s, N> {
     }
 
     /// The processor, the pass, and the list of the events with their numbers.
-    pub(crate) fn into_parts(self) -> (Cpu<'s>, Pass, Vec<(u64, Event)>)
+    pub(crate) fn into_parts(self) -> (Cpu<'s>, Pass, MadeList)
         ensures { IsTakenApart N.table N.script N.turns self.entry result.0
-            result.1 result.2.items }
+            result.1 result.2 }
     {
         let Worker {
             number: _,
@@ -184,7 +199,7 @@ impl<'s, N: Plan + Shared> Worker<'s, N> {
             of: _,
         } = self;
         let Some(pass) = pass else { unreachable!() };
-        (cpu, pass, list)
+        (cpu, pass, list.finish())
     }
 }
 

@@ -6,11 +6,11 @@ use Rattle.nt_live.proofs.finishing.go_on_all.Given as goal
 
 abbrev pub invariant-loop-made : goal.invariant-loop-made
 invariant-loop-made l = record {
-  after : AreAfter (reverse l.events.items) l.processors l.floor.script (view_of l.floor);
+  after : AreAfter (reverse l.events) l.processors l.floor.script (view_of l.floor);
   script : l.processors.script ≡ l.fn.processors.script;
   limit : l.processors.limit ≡ l.fn.processors.limit;
-  added : GoesByRobin l.fn.processors.script l.fn.processors.limit (reverse l.fn.events.items) (reverse l.events.items);
+  added : GoesByRobin l.fn.processors.script l.fn.processors.limit (reverse l.fn.events) (reverse l.events);
 }
 
 abbrev pub decreases-loop-made : goal.decreases-loop-made
-decreases-loop-made l = l.processors.script.cpus * l.processors.limit - length l.events.items
+decreases-loop-made l = l.processors.script.cpus * l.processors.limit - length l.events

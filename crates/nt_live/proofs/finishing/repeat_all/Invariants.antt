@@ -4,9 +4,9 @@ use Rattle.nt_cpus.specs.Following.{AreAfter}
 use Rattle.nt_live.proofs.AddedTurns.{past_at}
 use Rattle.nt_live.proofs.finishing.repeat_all.Given as goal
 
-abbrev pub invariant-loop-event : goal.invariant-loop-event
-invariant-loop-event l = record {
-  after : AreAfter (past_at l.event-index l.events) l.processors l.floor.script (view_of l.floor);
+abbrev pub invariant-loop-number : goal.invariant-loop-number
+invariant-loop-number l = record {
+  after : AreAfter (past_at l.number l.events) l.processors l.floor.script (view_of l.floor);
   script : l.processors.script ≡ l.fn.processors.script;
   limit : l.processors.limit ≡ l.fn.processors.limit;
 }

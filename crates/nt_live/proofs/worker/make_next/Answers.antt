@@ -1,14 +1,14 @@
 use Rattle.std.proofs.Common.{ap, subst, sym, ◌∙◌}
-use Rattle.std.specs.Prelude.{Option, Result, ℕ, ◌≡◌}
+use Rattle.std.specs.Prelude.{Result, ℕ, ◌++◌}
 use Rattle.std.specs.declared.alloc.AllocError.{AllocError}
 use Rattle.nt_cpu.specs.Turns.{Serves}
-use Rattle.nt_event.specs.declared.events.Event.{Event}
 use Rattle.nt_lane.specs.Views.{SeatGrows, words_of}
 use Rattle.nt_mark.specs.declared.marks.Marks.{Marks}
 use Rattle.nt_mark.specs.declared.seats.Pass.{Pass}
 use Rattle.nt_mark.specs.Names.{pass_view}
 use Rattle.nt_live.proofs.Turning.{IsTold, advanced, serves_at_work}
-use Rattle.nt_live.specs.Turning.{IsAdvanced, IsSeated, did_of}
+use Rattle.nt_live.specs.declared.worker.Outcome.{Outcome}
+use Rattle.nt_live.specs.Turning.{IsAdvanced, IsSeated, made_of, outcome_of}
 use Rattle.nt_live.proofs.worker.make_next.Goals as goal
 
 pub advance-turned-requires-clause-serves : goal.advance-turned-requires-clause-serves
@@ -36,10 +36,14 @@ returns g c =
     let seated : IsSeated t s limit x a.pass = subst (λ (p : Pass). IsSeated t s limit x p) (sym n.0) c.requires.seated in
     let grows : SeatGrows 0 z.last (pass_view a.pass) (pass_view z.pass) =
     subst (λ (k : ℕ). SeatGrows k z.last (pass_view a.pass) (pass_view z.pass)) n.1.1 c.advance-turned.ensures.grows in
-    let is : IsAdvanced t s limit x y a.pass z.pass (did_of z.last r) =
+    let is : IsAdvanced t s limit x y a.pass z.pass (made_of z.last r) (outcome_of r) =
     advanced t s limit a.marks.now z.marks.now x y a.pass z.pass z.last r a.cpus seated z.seat z.listed c.advance-turned.ensures.knows grows
     (c.advance-turned.ensures.ok, c.advance-turned.ensures.same) in
-    let did : c.did-did.result ≡ did_of z.last r = c.did-did.ensures ∙ ap (λ (k : ℕ). did_of k r) c.last.ensures in
-    subst (λ (e : Result (Option (ℕ × Event)) AllocError). IsAdvanced t s limit x y c.args.pass c.leave-pass.result e) (sym did)
-    (subst (λ (p : Pass). IsAdvanced t s limit x y p c.leave-pass.result (did_of z.last r)) n.0
-    (subst (λ (q : Pass). IsAdvanced t s limit x y a.pass q (did_of z.last r)) (sym c.leave-pass.ensures.pass) is))
+    let k = c.keep-outcome in (
+      made_of z.last r,
+      subst (λ (o : Result Outcome AllocError). IsAdvanced t s limit x y c.args.pass c.leave-pass.result (made_of z.last r) o) (sym k.ensures.outcome)
+          (subst (λ (p : Pass). IsAdvanced t s limit x y p c.leave-pass.result (made_of z.last r) (outcome_of r)) n.0
+          (subst (λ (q : Pass). IsAdvanced t s limit x y a.pass q (made_of z.last r) (outcome_of r)) (sym c.leave-pass.ensures.pass) is)),
+      k.ensures.list
+          ∙ ap (λ (m : ℕ). record { pairs = c.args.list.now.pairs ++ made_of m r; room = c.args.list.now.room }) c.last.ensures,
+    )

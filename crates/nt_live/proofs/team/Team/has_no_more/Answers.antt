@@ -23,7 +23,7 @@ loop-p-preserved c =
     record {
       table = c.has_no_more.ensures.table ∙ i.table;
       cpus = i.cpus;
-      list = i.list;
+      lists = i.lists;
       looked = looks_through v u w i.looked c.has_no_more.ensures.looked;
       done = one_done c.args.turns v u cpus c.loop-p.p c.index.result.now within same i.looked more i.done;
     }

@@ -8,7 +8,7 @@ abbrev pub invariant-loop-p : goal.invariant-loop-p
 invariant-loop-p l = record {
   table : pass_table l.self.pass ≡ pass_table l.initial.self.pass;
   cpus : l.self.cpus.items ≡ l.initial.self.cpus.items;
-  list : l.self.list.items ≡ l.initial.self.list.items;
+  lists : l.self.lists.items ≡ l.initial.self.lists.items;
   looked : HasLooked (pass_view l.initial.self.pass) (pass_view l.self.pass);
   done : (k : ℕ) (c : CpuState) → k < l.p → HasNoMore l.turns (pass_view l.initial.self.pass) (get_or l.initial.self.cpus.items k c);
 }

@@ -3,6 +3,7 @@ use Rattle.std.specs.Prelude.{[], ◌++◌, ◌+◌, ◌∷◌}
 use Rattle.nt_event.specs.Numbers.{cpu}
 use Rattle.nt_mark.specs.Names.{pass_view}
 use Rattle.nt_live.proofs.Orders.{left_then, met_long, met_then, taken_at}
+use Rattle.nt_live.specs.OwnLists.{all_pairs}
 use Rattle.nt_live.specs.Teams.{IsTeam}
 use Rattle.nt_live.specs.Workers.{WorkerState}
 use Rattle.nt_live.proofs.team.Team.of_all.Goals as goal
@@ -29,6 +30,6 @@ loop-preserved g c =
       left = omega (arith, fewer, left);
       rest = left_then ws old c.remove-in-loop.new.self.items n x l i.rest e.value e.items;
       team = subst (λ (xs : List WorkerState).
-          IsTeam g.N.Plan.script g.N.Plan.turns xs c.join.new.self.cpus.items (pass_view c.join.new.self.pass) c.join.new.self.list.items)
+          IsTeam g.N.Plan.script g.N.Plan.turns xs c.join.new.self.cpus.items (pass_view c.join.new.self.pass) (all_pairs c.join.new.self.lists.items))
           (sym met) (c.in_ok-join.ensures.joined (take n ws) i.team next);
     }
