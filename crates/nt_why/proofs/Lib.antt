@@ -2,3 +2,4 @@ pub mod Walks
 pub mod Told
 pub mod Courses
 pub mod InterruptLines
+pub mod ThreadLines

@@ -39,7 +39,7 @@ use Rattle.nt_why.specs.declared.reasons.Reason.{Reason}
 use Rattle.nt_why.specs.declared.reasons.Reason.TheVariants.{Ended, NeverInserted, Next, NoNext, Then, Waits}
 use Rattle.nt_why.specs.Past.{past_at}
 use Rattle.nt_why.specs.Fates.{delivers, fate_as, last_insert, thing_of}
-use Rattle.nt_why.specs.Lined.{AreTrue, IsWhat, next_reason, put_to, with_all, with_place, with_processor}
+use Rattle.nt_why.specs.Lined.{AreTrue, IsWhat, next_reason, put_to, with_all, with_each, with_place, with_processor}
 use Rattle.nt_why.specs.Moments.{AreAll, IsAt, IsTold, events_of, past_of}
 use Rattle.nt_why.specs.Says.{AreComplete, Says, gives, gives_what, holds_back, is_free, maker_of, place_of, sort_of}
 
@@ -124,6 +124,29 @@ all_held true x next rs h none = any_lines x rs ∙ none
 all_held false x next rs h none =
     any_more (with_processor false x (with_place false x rs)) next true h ∙ go (list_any holds_back (with_processor false x (with_place false x rs)))
   where
+    go : (b : Bool) → (b || true) ≡ true
+    go true = refl
+    go false = refl
+
+-- what holds of each line and of the others holds of all
+pub each_told : (P : Reason → Type 0) (free : Bool) (x : Lines) (rs : List Reason) → AreTrue P x → All P rs → All P (with_each free x rs)
+each_told P b x rs h a =
+    all_put P b x.asked _ h.asked (all_put P b x.insert _ h.insert (all_put P b x.cut _ h.cut
+    (all_put P b x.level _ h.level (all_put P b x.regions _ h.regions (all_put P b x.runs _ h.runs
+    (all_put P b x.first rs h.first a))))))
+
+-- none of the lines of a free thing holds it back
+pub each_free : (x : Lines) (rs : List Reason) → list_any holds_back rs ≡ false → list_any holds_back (with_each true x rs) ≡ false
+each_free x rs none = any_lines x rs ∙ none
+
+-- the last line holds back a thing that isn't free
+pub each_held : (x : Lines) (r : Reason) (rs : List Reason) → x.asked ≡ Some r → holds_back r ≡ true → list_any holds_back (with_each false x rs) ≡ true
+each_held x r rs e h =
+    ap (λ (o : Option Reason). list_any holds_back (put_to false o before)) e ∙ any_more before r true h ∙ go (list_any holds_back before)
+  where
+    before : List Reason
+    before = put_to false x.insert (put_to false x.cut (put_to false x.level (with_place false x rs)))
+
     go : (b : Bool) → (b || true) ≡ true
     go true = refl
     go false = refl

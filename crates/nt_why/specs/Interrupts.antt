@@ -20,6 +20,7 @@ use Rattle.nt_why.specs.declared.reasons.Reason.{Reason}
 use Rattle.nt_why.specs.declared.reasons.Reason.TheVariants.{AskedNothing, Behind, Cut, Ended, First, InRegions}
 use Rattle.nt_why.specs.declared.reasons.Reason.TheVariants.{NeverInserted, Next, NoNext, NotAsked, NotRunning, Noticed}
 use Rattle.nt_why.specs.declared.reasons.Reason.TheVariants.{Runs, Stands, Then, TooHigh, Unnoticed, Waits}
+use Rattle.nt_why.specs.declared.reasons.Reason.TheVariants.{MustFirst, NotTaken, OnOwn, Ready, TakenFirst}
 use Rattle.nt_why.specs.declared.reasons.Request.{Request}
 use Rattle.nt_why.specs.declared.sought.Sought.TheVariants as sought
 use Rattle.nt_why.specs.Says.{IsNotAsked, IsNoticed, IsStood, IsUnnoticed, holds_back}
@@ -62,6 +63,11 @@ SaysInterrupt s limit events end p l (Runs t) = ⊥
 SaysInterrupt s limit events end p l (NotRunning a) = ⊥
 SaysInterrupt s limit events end p l (InRegions t r) = ⊥
 SaysInterrupt s limit events end p l (AskedNothing r n) = ⊥
+SaysInterrupt s limit events end p l (Ready a) = ⊥
+SaysInterrupt s limit events end p l (TakenFirst q u) = ⊥
+SaysInterrupt s limit events end p l (OnOwn st) = ⊥
+SaysInterrupt s limit events end p l (MustFirst q) = ⊥
+SaysInterrupt s limit events end p l (NotTaken q k) = ⊥
 
 -- the event begins the interrupt of this level
 abbrev pub begins : ℕ → What → Bool

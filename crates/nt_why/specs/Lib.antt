@@ -6,6 +6,7 @@ pub mod Lined
 pub mod Moments
 pub mod Sought
 pub mod Interrupts
+pub mod Threads
 pub mod Things
 pub mod Courses
 pub mod Words

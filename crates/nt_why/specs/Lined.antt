@@ -44,6 +44,9 @@ abbrev pub with_processor : Bool → Lines → List Reason → List Reason
 with_processor free x rs =
     put_to free x.asked (put_to free x.insert (put_to free x.cut (put_to free x.level rs)))
 
+abbrev pub with_each : Bool → Lines → List Reason → List Reason
+with_each free x rs = with_processor free x (with_place free x rs)
+
 -- and behind them, where it isn't free, that of the next event
 abbrev pub with_all : Bool → Lines → Reason → List Reason → List Reason
 with_all true x next rs = with_processor true x (with_place true x rs)

@@ -45,6 +45,7 @@ use Rattle.nt_why.specs.declared.reasons.Reason.{Reason}
 use Rattle.nt_why.specs.declared.reasons.Reason.TheVariants.{AskedNothing, Behind, Cut, Ended, First, InRegions}
 use Rattle.nt_why.specs.declared.reasons.Reason.TheVariants.{NeverInserted, Next, NoNext, NotAsked, NotRunning, Noticed}
 use Rattle.nt_why.specs.declared.reasons.Reason.TheVariants.{Runs, Stands, Then, TooHigh, Unnoticed, Waits}
+use Rattle.nt_why.specs.declared.reasons.Reason.TheVariants.{MustFirst, NotTaken, OnOwn, Ready as IsReady, TakenFirst}
 use Rattle.nt_why.specs.declared.reasons.Request.{Request}
 use Rattle.nt_why.specs.declared.reasons.Sort.{Sort}
 use Rattle.nt_why.specs.declared.reasons.Sort.TheVariants as sort
@@ -68,6 +69,9 @@ holds_back (NotAsked r) = true
 holds_back (Cut p) = true
 holds_back (Next p w) = true
 holds_back (NoNext p k) = true
+holds_back (OnOwn st) = true
+holds_back (MustFirst p) = true
+holds_back (NotTaken p k) = true
 holds_back NeverInserted = false
 holds_back (Ended n f) = false
 holds_back (Waits i) = false
@@ -77,6 +81,8 @@ holds_back (Stands st) = false
 holds_back (Noticed r n k) = false
 holds_back (AskedNothing r n) = false
 holds_back (Then f) = false
+holds_back (IsReady a) = false
+holds_back (TakenFirst p t) = false
 
 -- ---- the tests
 
@@ -225,6 +231,11 @@ Says s limit events end x (NoNext p k) = step s limit (NextTurn p) (past_at end 
 Says s limit events end x (Then f) =
     (n : ℕ) × ((last_insert (thing_of x) (past_at end events) ≡ Some n)
     × (fate_of (thing_of x) n (reverse events) ≡ fate_as f))
+Says s limit events end x (IsReady a) = ⊥
+Says s limit events end x (TakenFirst q u) = ⊥
+Says s limit events end x (OnOwn st) = ⊥
+Says s limit events end x (MustFirst q) = ⊥
+Says s limit events end x (NotTaken q k) = ⊥
 
 -- ---- complete
 

@@ -1,8 +1,9 @@
 -- The first event from some number on that is sought.
 use Rattle.std.specs.Option.{option_or}
-use Rattle.std.specs.Prelude.{Bool, List, None, Option, Some, [], false, if◌then◌else◌, length, nat_le, ℕ, ◌&&◌, ◌∷◌}
+use Rattle.std.specs.Prelude.{Bool, List, None, Option, Some, [], false, if◌then◌else◌, length, nat_le, ℕ, ◌&&◌}
+use Rattle.std.specs.Prelude.{◌==◌, ◌∷◌}
 use Rattle.nt_event.specs.declared.events.Event.{Event}
-use Rattle.nt_event.specs.Families.{in_begin}
+use Rattle.nt_event.specs.Families.{in_begin, in_switch}
 use Rattle.nt_event.specs.Numbers.{is_of}
 use Rattle.nt_event.specs.Requests.{begins_class}
 use Rattle.nt_why.specs.declared.fates.Fate.{Fate}
@@ -10,9 +11,10 @@ use Rattle.nt_why.specs.declared.fates.Fate.TheVariants as fate
 use Rattle.nt_why.specs.declared.sought.Sought.{Sought}
 use Rattle.nt_why.specs.declared.sought.Sought.TheVariants as sought
 
--- the event is sought: it begins the interrupt of this level on the processor
+-- the event is sought: it begins the interrupt of this level on the processor, or takes up the thread
 abbrev pub is_sought : Sought → Event → Bool
 is_sought (sought.Interrupt p l) e = is_of e p && in_begin (λ b from. begins_class l b) false e.what
+is_sought (sought.Thread t) e = in_switch (λ u status. u.0 == t.0) false e.what
 
 -- the number of the first event, from this number on, that is sought
 abbrev pub first_from : Sought → ℕ → List Event → Option ℕ

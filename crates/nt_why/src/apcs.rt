@@ -14,7 +14,7 @@ use nt_cpu::Cpu;
 use nt_event::{ApcKind, CpuNo, Doing, Regions, ThreadNo};
 use nt_plain::PlainFloor;
 
-fn is_thread(found: Option<ThreadNo>, thread: ThreadNo) -> bool
+pub(crate) fn is_thread(found: Option<ThreadNo>, thread: ThreadNo) -> bool
     ensures { result ≡ is_it found thread }
 {
     match found {
@@ -24,7 +24,7 @@ fn is_thread(found: Option<ThreadNo>, thread: ThreadNo) -> bool
 }
 
 /// What a thread does.
-fn does_of(doing: &Doing) -> Does
+pub(crate) fn does_of(doing: &Doing) -> Does
     ensures { result ≡ does_of doing.now }
 {
     match doing {

@@ -8,6 +8,7 @@ ghost use Rattle.nt_why.specs.Interrupts.{IsWholeInterrupt, SaysInterrupt};
 ghost use Rattle.nt_why.specs.Moments.{IsAsked, events_of};
 ghost use Rattle.nt_why.specs.Says.{AreComplete, Says};
 ghost use Rattle.nt_why.specs.Things.{AreWhole, SaysOf};
+ghost use Rattle.nt_why.specs.Threads.{IsWholeThread, SaysThread};
 
 use crate::fates::Object;
 use crate::interrupts::explain_interrupt;
@@ -15,8 +16,9 @@ use crate::objects::explain;
 use crate::question::{Course, Question};
 use crate::reasons::Reason;
 use crate::things::Thing;
+use crate::threads::explain_thread;
 use nt_event::limits::{EVENTS, TURNS};
-use nt_event::{CpuNo, Level, Script};
+use nt_event::{CpuNo, Level, Script, ThreadNo};
 use nt_history::History;
 use std::alloc::{AllocError, Global};
 
@@ -122,6 +124,31 @@ fn why_interrupt(
     Ok(reasons)
 }
 
+/// Why the thread doesn't run.
+fn why_thread(
+    alloc: Global,
+    script: &Script,
+    history: &History,
+    after: u32,
+    t: ThreadNo,
+) -> Result<Vec<Reason>, AllocError>
+    requires script { IsTrue (fits script.now) }
+    requires turns { (1 ≤ history.now.turns) × (history.now.turns ≤ TURNS) }
+    requires all { script.now.cpus * history.now.turns ≤ EVENTS }
+    requires run { IsRun script.now history.now.turns (reverse history.now.events) }
+    ensures told { IfOk result (λ rs. All
+        (SaysThread script.now history.now.turns history.now.events
+        (min after (length history.now.events)) t) rs.items) }
+    ensures whole { IfOk result (λ rs.
+        IsWholeThread script.now history.now.turns history.now.events
+        (min after (length history.now.events)) t rs.items) }
+{
+    let course = course_of(script, history, after);
+    let mut reasons = Vec::new(alloc);
+    explain_thread(alloc, &course, t, &mut reasons)?;
+    Ok(reasons)
+}
+
 /// Why the thing has not run after the first `after` events of the history, or after all of them
 /// where it has fewer. An error is want of memory.
 ///
@@ -134,6 +161,9 @@ fn why_interrupt(
 ///
 /// Where all requests for an interrupt are served, the first reason says so. Else some reason says
 /// what holds it back, exactly where the next event of its processor doesn't begin it.
+///
+/// Where a thread runs, the first reason says so. Else some reason says what holds it back, exactly
+/// where the turn that takes it up is refused.
 pub fn why(
     alloc: Global,
     script: &Script,
@@ -155,5 +185,6 @@ pub fn why(
     match thing {
         Thing::Object(object) => why_object(alloc, script, history, after, object),
         Thing::Interrupt(p, level) => why_interrupt(alloc, script, history, after, p, level),
+        Thing::Thread(t) => why_thread(alloc, script, history, after, t),
     }
 }

@@ -14,6 +14,7 @@ mod reasons;
 mod sought;
 mod standing;
 mod things;
+mod threads;
 mod watch;
 mod words;
 

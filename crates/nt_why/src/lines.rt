@@ -5,7 +5,7 @@ ghost use Rattle.nt_event.specs.declared.events.Turn.{Turn};
 ghost use Rattle.nt_event.specs.Step.{step};
 ghost use Rattle.nt_plain.specs.States.{view_of};
 ghost use Rattle.nt_cpus.specs.Following.{AreAfter};
-ghost use Rattle.nt_why.specs.Lined.{IsWhat, next_reason, put_to, with_all, with_place};
+ghost use Rattle.nt_why.specs.Lined.{IsWhat, next_reason, put_to, with_all, with_each, with_place};
 ghost use Rattle.nt_why.specs.Lined.{with_processor};
 
 use crate::reasons::{Reason, add};
@@ -104,6 +104,18 @@ fn put_processor(reasons: &mut Vec<Reason>, free: bool, lines: &Lines) -> Result
     put(reasons, free, lines.cut)?;
     put(reasons, free, lines.insert)?;
     put(reasons, free, lines.asked)
+}
+
+/// Puts the lines at the end; where the thing is free, none that says what holds it back.
+pub(crate) fn put_each(
+    reasons: &mut Vec<Reason>,
+    free: bool,
+    lines: &Lines,
+) -> Result<(), AllocError>
+    ensures { OnOk result (reasons.new.items ≡ with_each free lines.now reasons.old.items) }
+{
+    put_place(reasons, free, lines)?;
+    put_processor(reasons, free, lines)
 }
 
 /// Puts the lines at the end; where the thing is free, none that says what holds it back. Else the

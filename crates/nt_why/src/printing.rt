@@ -112,6 +112,7 @@ fn put_thing(out: &mut Text, input: &Input, thing: &Thing) -> Result<(), AllocEr
             put(out, b" of ")?;
             put_cpu(out, *p)
         }
+        Thing::Thread(thread) => put_thread(out, input, *thread),
     }
 }
 
@@ -440,8 +441,36 @@ fn put_first(out: &mut Text, thing: &Thing) -> Result<(), AllocError> {
     match thing {
         Thing::Object(Object::Dpc(_)) => put(out, b"it is the first of its part"),
         Thing::Object(Object::Apc(_)) => put(out, b"it is the first APC of its kind there"),
-        Thing::Interrupt(_, _) => put(out, b"it is the first"),
+        Thing::Interrupt(_, _) | Thing::Thread(_) => put(out, b"it is the first"),
     }
+}
+
+/// Adds which event begins the thing, or takes up the thread.
+fn put_then(out: &mut Text, thing: &Thing, fate: Fate) -> Result<(), AllocError> {
+    put(out, b"then: ")?;
+    match (thing, fate) {
+        (Thing::Thread(_), Fate::Begun(n)) => put_at(out, b"taken up at ", n),
+        (Thing::Thread(_), Fate::Removed(_) | Fate::Flushed(_) | Fate::Waits)
+        | (Thing::Object(_) | Thing::Interrupt(_, _), _) => put_fate(out, fate),
+    }
+}
+
+/// Adds since when a thread is ready.
+fn put_ready(out: &mut Text, input: &Input, away: &Away) -> Result<(), AllocError>
+    requires { IsSound input.now }
+{
+    put_thread(out, input, away.thread)?;
+    put(out, b" is ")?;
+    put_does(out, &away.does, away.since)?;
+    put(out, b"; no thread runs on ")?;
+    put_cpu(out, away.cpu)
+}
+
+/// Adds that the thread can't be taken up now.
+fn put_not_taken(out: &mut Text, p: CpuNo, kind: ScheduleKind) -> Result<(), AllocError> {
+    put_cpu(out, p)?;
+    put(out, b" can't take it up now: ")?;
+    put(out, kind.name().as_bytes())
 }
 
 /// Adds the sentences that speak of requests.
@@ -515,10 +544,19 @@ fn put_reason(
             put_what(out, input, what)
         }
         Reason::NoNext { cpu, kind } => put_no_next(out, *cpu, *kind),
-        Reason::Then(fate) => {
-            put(out, b"then: ")?;
-            put_fate(out, *fate)
+        Reason::Then(fate) => put_then(out, thing, *fate),
+        Reason::Ready(away) => put_ready(out, input, away),
+        Reason::TakenFirst { first, .. } => {
+            put(out, b"the round-robin rule takes up ")?;
+            put_thread(out, input, *first)?;
+            put(out, b" first")
         }
+        Reason::OnOwn(stood) => put_stood(out, input, stood),
+        Reason::MustFirst(p) => {
+            put_cpu(out, *p)?;
+            put(out, b" has to do something else first")
+        }
+        Reason::NotTaken { cpu, kind } => put_not_taken(out, *cpu, *kind),
     }
 }
 

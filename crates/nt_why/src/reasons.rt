@@ -159,8 +159,24 @@ pub enum Reason {
         cpu: CpuNo,
         kind: ScheduleKind,
     },
-    /// What became of its last insert in the whole history.
+    /// What became of its last insert in the whole history, or which event begins it next.
     Then(Fate),
+    /// The thread is ready since then, and no other thread runs there.
+    Ready(Away),
+    /// The round-robin rule takes up this ready thread before it.
+    TakenFirst {
+        cpu: CpuNo,
+        first: ThreadNo,
+    },
+    /// The processor stands so, with a frame on its own part.
+    OnOwn(Stood),
+    /// The processor has to do something else before it takes up a thread.
+    MustFirst(CpuNo),
+    /// The turn that takes up the thread is refused, for this cause.
+    NotTaken {
+        cpu: CpuNo,
+        kind: ScheduleKind,
+    },
 }
 
 impl Reason {
@@ -177,7 +193,10 @@ impl Reason {
             | Reason::NotAsked(_)
             | Reason::Cut(_)
             | Reason::Next { .. }
-            | Reason::NoNext { .. } => true,
+            | Reason::NoNext { .. }
+            | Reason::OnOwn(_)
+            | Reason::MustFirst(_)
+            | Reason::NotTaken { .. } => true,
             Reason::NeverInserted
             | Reason::Ended { .. }
             | Reason::Waits(_)
@@ -186,7 +205,9 @@ impl Reason {
             | Reason::Stands(_)
             | Reason::Noticed { .. }
             | Reason::AskedNothing { .. }
-            | Reason::Then(_) => false,
+            | Reason::Then(_)
+            | Reason::Ready(_)
+            | Reason::TakenFirst { .. } => false,
         }
     }
 }

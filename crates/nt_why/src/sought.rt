@@ -1,8 +1,8 @@
 //! The first event from some number on that is sought, by a walk over the events.
 ghost use Rattle.std.specs.Option.{option_or};
-ghost use Rattle.std.specs.Prelude.{◌≡◌, ◌≤◌, ◌&&◌, None, Some, false, if◌then◌else◌, length};
+ghost use Rattle.std.specs.Prelude.{◌≡◌, ◌≤◌, ◌==◌, ◌&&◌, None, Some, false, if◌then◌else◌, length};
 ghost use Rattle.std.specs.Prelude.{nat_le};
-ghost use Rattle.nt_event.specs.Families.{in_begin};
+ghost use Rattle.nt_event.specs.Families.{in_begin, in_switch};
 ghost use Rattle.nt_event.specs.Requests.{begins_class};
 ghost use Rattle.nt_history.specs.Briefs.{events_in};
 ghost use Rattle.nt_why.specs.Past.{past_at};
@@ -10,7 +10,7 @@ ghost use Rattle.nt_why.specs.Sought.{begun_by as begun_in, first_from as first_
 ghost use Rattle.nt_why.specs.Sought.{is_sought as sought_in};
 
 use crate::fates::Fate;
-use nt_event::{Begun, CpuNo, Event, Level, What};
+use nt_event::{Begun, CpuNo, Event, Level, ThreadNo, What};
 use nt_history::Briefs;
 
 /// What is sought among events.
@@ -18,6 +18,8 @@ use nt_history::Briefs;
 pub(crate) enum Sought {
     /// The begin of the interrupt of this level on the processor.
     Interrupt(CpuNo, Level),
+    /// The switch to the thread.
+    Thread(ThreadNo),
 }
 
 /// Whether the interrupt of this level begins.
@@ -52,12 +54,35 @@ pub(crate) fn begins(level: Level, what: &What) -> bool
     }
 }
 
+/// Whether an event takes up the thread.
+fn takes_up(sought: ThreadNo, what: &What) -> bool
+    ensures { result ≡ in_switch (λ t status. t.0 == sought.0) false what.now }
+{
+    match what {
+        What::Switch { thread, .. } => thread.0 == sought.0,
+        What::Call { .. }
+        | What::Look { .. }
+        | What::Begin { .. }
+        | What::Normal { .. }
+        | What::End { .. }
+        | What::Expire { .. }
+        | What::Fire { .. }
+        | What::Clean { .. }
+        | What::Rewait { .. }
+        | What::Flush { .. }
+        | What::Gone { .. }
+        | What::Free { .. }
+        | What::Rest => false,
+    }
+}
+
 /// Whether the event is sought.
 fn is_sought(sought: &Sought, event: &Event) -> bool
     ensures { result ≡ sought_in sought.now event.now }
 {
     match sought {
         Sought::Interrupt(p, level) => event.cpu.0 == p.0 && begins(*level, &event.what),
+        Sought::Thread(thread) => takes_up(*thread, &event.what),
     }
 }
 

@@ -7,7 +7,7 @@ ghost use Rattle.nt_script.specs.Sound.{IsSound};
 use crate::{Object, Reason, Thing, print_reasons, read_interrupt, why};
 use nt_core::run;
 use nt_event::limits::{EVENTS, TURNS};
-use nt_event::{ApcNo, CpuNo, DpcNo, Level};
+use nt_event::{ApcNo, CpuNo, DpcNo, Level, ThreadNo};
 use nt_history::History;
 use nt_script::{Input, read};
 use nt_text::INPUT_LIMIT;
@@ -169,6 +169,79 @@ then: begun at 10
     ),
 ];
 
+/// A DPC ends the wait of a thread while another one runs.
+const WORKER: &str = "cpus 1
+isr 0 5 device
+dpc work signal
+thread worker 0 slow
+thread main 0 body
+routine device
+queue work
+exit
+routine signal
+release worker
+exit
+routine slow
+wait kernel plain
+note 3
+exit
+routine body
+interrupt 0 5
+note 1
+note 2
+exit
+";
+
+/// What is told of the thread `worker` of [`WORKER`] after so many events.
+const OF_WORKER: [(u32, &str); 5] = [
+    (
+        0,
+        "worker is ready from the start; no thread runs on p0
+p0 is at level 0 from the start: no routine runs
+then: taken up at 0
+",
+    ),
+    (
+        1,
+        "worker runs
+then: taken up at 15
+",
+    ),
+    (
+        3,
+        "* worker isn't running on p0: blocked since 1, wait kernel plain, at level 0; main runs
+p0 is at level 0 since 2: base main, frame 2
+* p0 can't take it up now: BadChoice
+then: taken up at 15
+",
+    ),
+    (
+        9,
+        "* worker isn't running on p0: ready since 8; main runs
+* p0 is at level 2 since 7: dpc work, frame 7
+* p0 can't take it up now: BadChoice
+then: taken up at 15
+",
+    ),
+    (
+        15,
+        "worker is ready since 8; no thread runs on p0
+p0 is at level 0 since 14: no routine runs
+then: taken up at 15
+",
+    ),
+];
+
+/// What is told of the thread `main` of [`WORKER`] before the first event.
+const OF_MAIN: [(u32, &str); 1] = [(
+    0,
+    "main is ready from the start; no thread runs on p0
+the round-robin rule takes up worker first
+p0 is at level 0 from the start: no routine runs
+then: taken up at 2
+",
+)];
+
 /// Whether these reasons have this text.
 fn is_text(
     alloc: Global,
@@ -307,6 +380,22 @@ fn an_interrupt_below_the_level(rt: HostRuntime) -> Result<(), AllocError> {
         &Thing::Interrupt(CpuNo(0), four),
         &OF_FOUR,
     )?;
+    assert!(rt; told);
+    Ok(())
+}
+
+#[test]
+fn a_thread_that_waits(rt: HostRuntime) -> Result<(), AllocError> {
+    let worker = Thing::Thread(ThreadNo(0));
+    let told = text_tells(rt.alloc(), WORKER, &worker, &OF_WORKER)?;
+    assert!(rt; told);
+    Ok(())
+}
+
+#[test]
+fn a_thread_that_comes_later(rt: HostRuntime) -> Result<(), AllocError> {
+    let main = Thing::Thread(ThreadNo(1));
+    let told = text_tells(rt.alloc(), WORKER, &main, &OF_MAIN)?;
     assert!(rt; told);
     Ok(())
 }

@@ -1,6 +1,6 @@
 //! The things of a script that are asked about.
 use crate::fates::Object;
-use nt_event::{CpuNo, Level};
+use nt_event::{CpuNo, Level, ThreadNo};
 
 /// A thing that may not have run yet.
 #[derive(Clone, Copy, PartialEq, Eq, Debug)]
@@ -9,4 +9,6 @@ pub enum Thing {
     Object(Object),
     /// The interrupt of this level on this processor.
     Interrupt(CpuNo, Level),
+    /// A thread.
+    Thread(ThreadNo),
 }

@@ -8,8 +8,8 @@ use nt_line::fields;
 use nt_script::Input;
 use nt_text::is_word;
 
-/// The thing that two words name: `dpc NAME` or `apc NAME`; None exactly where they name none of
-/// the input's script.
+/// The thing that two words name: `dpc NAME`, `apc NAME` or `thread NAME`; None exactly where they
+/// name none of the input's script.
 pub fn read_thing(input: &Input, kind: &[u8], name: &[u8]) -> Option<Thing>
     ensures { result ≡ read_words input.now.names kind.now name.now }
 {
@@ -22,6 +22,12 @@ pub fn read_thing(input: &Input, kind: &[u8], name: &[u8]) -> Option<Thing>
     if is_word(kind, b"apc") {
         return match fields::apc(&input.names, name) {
             Ok(apc) => Some(Thing::Object(Object::Apc(apc))),
+            Err(_) => None,
+        };
+    }
+    if is_word(kind, b"thread") {
+        return match fields::thread(&input.names, name) {
+            Ok(thread) => Some(Thing::Thread(thread)),
             Err(_) => None,
         };
     }
