@@ -22,10 +22,10 @@ use Rattle.nt_why.specs.declared.question.Course.{Course}
 use Rattle.nt_why.specs.declared.reasons.Reason.{Reason}
 use Rattle.nt_why.specs.declared.reasons.Reason.TheVariants.{NotTaken, Runs, Then}
 use Rattle.nt_why.specs.declared.things.Thing.TheVariants as thing
-use Rattle.nt_why.specs.Courses.{AreWholeOf, IsTrueOf, past_on}
+use Rattle.nt_why.specs.Courses.{AreWholeOf, past_on}
 use Rattle.nt_why.specs.Lined.{with_each}
 use Rattle.nt_why.specs.Says.{holds_back}
-use Rattle.nt_why.specs.Threads.{is_refused, refusal_of, runs_there, taken_line}
+use Rattle.nt_why.specs.Threads.{refusal_of, runs_there, taken_line}
 use Rattle.nt_why.proofs.InterruptLines.{head_kept}
 use Rattle.nt_why.proofs.Told.{any_same, each_free, each_held}
 
