@@ -14,7 +14,7 @@ use Rattle.nt_mark.specs.Views.{both, entry, first_notes, known_entries, known_l
 use Rattle.nt_mark.proofs.Noting.{IsAbove-le}
 use Rattle.nt_mark.proofs.Reach.{reach_both}
 use Rattle.nt_lane_record.proofs.Growing.{grows_by}
-use Rattle.nt_lane_record.specs.Records.{AreKnown, IsKnownWith, IsTied, item_numbers}
+use Rattle.nt_lane_record.specs.Records.{AreKnown, IsKnownWith, IsTied}
 use Rattle.nt_lane_record.specs.Passes.{Grows, Learns, grows_through}
 
 -- an element of a list with one element is equal to that one
@@ -98,13 +98,13 @@ pub known_more : (told : List (List ℕ)) (v w : View) → ((u : ℕ) → reach 
 known_more told v w le h p c = let a = h p c in let b = le (request_word p c) in let d = le step_word in (omega arith, omega arith)
 
 -- a keeper's list, told values and events still fit together after a pass told the keeper what it knows
-pub tied_met : (t : TableId) (lane : ℕ) (told : List (List ℕ)) (items : List (ℕ × Event)) (t0 t1 : TableId) (l0 l1 : ℕ) (k0 p0 k1 : View) →
+pub tied_met : (t : TableId) (lane : ℕ) (told : List (List ℕ)) (items : List ℕ) (t0 t1 : TableId) (l0 l1 : ℕ) (k0 p0 k1 : View) →
     IsTied t lane told items t0 l0 k0 → t1 ≡ t0 → l1 ≡ l0 → k1 ≡ both k0 (telling p0 0 []) → IsTied t lane told items t1 l1 k1
 tied_met t lane told items t0 t1 l0 l1 k0 p0 k1 h a b e = record {
   at = a ∙ h.at;
   its_lane_is = b ∙ h.its_lane_is;
   numbers = h.numbers ∙ sym (ap (λ (ks : List LaneList). note_numbers (first_notes ks)) (kept_told k0 p0 k1 e));
-  known = λ x i. let o = h.known x i in (o.0, o.1, known_told k0 p0 k1 e (entry x.0 x.1 o.0) o.2);
+  known = λ n i. let o = h.known n i in (o.0, o.1, o.2, known_told k0 p0 k1 e (entry n o.0 o.1) o.3);
   above = subst (λ (ks : List LaneList). IsAbove (reach step_word k1) (first_notes ks)) (sym (kept_told k0 p0 k1 e))
       (IsAbove-le (reach step_word k0) (reach step_word k1) (first_notes k0.kept) h.above (let r = reach_told k0 p0 k1 e step_word in omega arith));
   asked = known_more told k0 k1 (λ u. let r = reach_told k0 p0 k1 e u in omega arith) h.asked;
@@ -117,30 +117,29 @@ pub noted_kept : (k : LaneList) (k1 k2 : View) (x : Note) → k1.kept ≡ k ∷ 
     k2.kept ≡ record { lane = k.lane; word = k.word; notes = k.notes ++ x ∷ [] } ∷ []
 noted_kept k k1 k2 x one is = ap (λ (v : View). v.kept) is ∙ ap (λ (ks : List LaneList). noted_at ks x) one
 
--- if one more event is put on a lane's list, each event of the list is of an entry known with that lane
-pub items_more : (lane : ℕ) (items after : List (ℕ × Event)) (n : ℕ) (e : Event) (lanes : List ℕ) (v w : View) → after ≡ items ++ (n, e) ∷ [] →
-    ((x : ℕ × Event) → Contains items x → IsKnownWith lane v x) → ((y : Entry) → Contains v.known y → Contains w.known y) →
-    Contains lanes lane → Contains w.known (entry n e lanes) → (x : ℕ × Event) → Contains after x → IsKnownWith lane w x
-items_more lane items after n e lanes v w is old more among new x h = ⊎_elim
-    (λ a. let o = old x a in (o.0, o.1, more (entry x.0 x.1 o.0) o.2))
+-- if the number of one more event is put on a lane's list, each number of the list is of an entry known with that lane
+pub items_more : (lane : ℕ) (items after : List ℕ) (n : ℕ) (e : Event) (lanes : List ℕ) (v w : View) → after ≡ items ++ n ∷ [] →
+    ((m : ℕ) → Contains items m → IsKnownWith lane v m) → ((y : Entry) → Contains v.known y → Contains w.known y) → Contains lanes lane →
+    Contains w.known (entry n e lanes) → (m : ℕ) → Contains after m → IsKnownWith lane w m
+items_more lane items after n e lanes v w is old more among new m h = ⊎_elim
+    (λ a. let o = old m a in (o.0, o.1, o.2, more (entry m o.0 o.1) o.3))
     (λ b. last b)
-    (Contains-append_cases items ((n, e) ∷ []) x (subst (λ (l : List (ℕ × Event)). Contains l x) is h))
+    (Contains-append_cases items (n ∷ []) m (subst (λ (l : List ℕ). Contains l m) is h))
   where
-    last : Contains ((n, e) ∷ []) x → IsKnownWith lane w x
-    last b = subst (λ (z : ℕ × Event). IsKnownWith lane w z) (one_of (n, e) x b) (lanes, among, new)
+    last : Contains (n ∷ []) m → IsKnownWith lane w m
+    last b = subst (λ (z : ℕ). IsKnownWith lane w z) (one_of n m b) (e, lanes, among, new)
 
--- the numbers of a list of events and of its notes stay equal if both get one of the same number
-pub numbers_more : (items after : List (ℕ × Event)) (ns ms : List Note) (n : ℕ) (e : Event) (x : Note) →
-    item_numbers items ≡ note_numbers ns → after ≡ items ++ (n, e) ∷ [] → ms ≡ ns ++ x ∷ [] → x.number ≡ n → item_numbers after ≡ note_numbers ms
-numbers_more items after ns ms n e x h a m q =
-    ap item_numbers a ∙ (map-append (λ (z : ℕ × Event). z.0) items ((n, e) ∷ [])
-    ∙ ((λ i. h i ++ sym q i ∷ []) ∙ sym (ap note_numbers m ∙ map-append (λ (z : Note). z.number) ns (x ∷ []))))
+-- the numbers of a list and of its notes stay equal if both get one of the same number
+pub numbers_more : (items after : List ℕ) (ns ms : List Note) (n : ℕ) (x : Note) → items ≡ note_numbers ns → after ≡ items ++ n ∷ [] →
+    ms ≡ ns ++ x ∷ [] → x.number ≡ n → after ≡ note_numbers ms
+numbers_more items after ns ms n x h a m q =
+    a ∙ ((λ i. h i ++ sym q i ∷ []) ∙ sym (ap note_numbers m ∙ map-append (λ (z : Note). z.number) ns (x ∷ [])))
 
 -- ---- an empty list
 
--- an empty list of events has no event to know
-pub no_item : (lane : ℕ) (v : View) (x : ℕ × Event) → Contains [] x → IsKnownWith lane v x
-no_item lane v x h = absurd (let k : h.0 < 0 = h.1 in omega (arith, k))
+-- an empty list has no number to know
+pub no_item : (lane : ℕ) (v : View) (n : ℕ) → Contains [] n → IsKnownWith lane v n
+no_item lane v n h = absurd (let k : h.0 < 0 = h.1 in omega (arith, k))
 
 -- ---- a comparison
 

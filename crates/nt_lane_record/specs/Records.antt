@@ -1,6 +1,6 @@
--- What stands behind a lane's lock beside its state: its list, what it tells of requests, and its keeper.
+-- What stands behind a lane's lock beside its state: its numbers, what it tells of requests, and its keeper.
 use Rattle.std.specs.List.{list_any}
-use Rattle.std.specs.Prelude.{Contains, List, [], get_or, map, set, ℕ, ◌*◌, ◌++◌, ◌+◌, ◌∷◌, ◌≡◌, ◌≤◌}
+use Rattle.std.specs.Prelude.{Contains, List, [], get_or, set, ℕ, ◌*◌, ◌++◌, ◌+◌, ◌∷◌, ◌≡◌, ◌≤◌}
 use Rattle.atomic_table.specs.Seated.{TableId}
 use Rattle.nt_event.specs.declared.events.Event.{Event}
 use Rattle.nt_event.specs.declared.numbers.CpuNo.{CpuNo}
@@ -55,20 +55,17 @@ IsAskKnown n v a = n + 1 ≤ reach (request_word a.cpu a.class) v
 
 -- ---- what holds whenever the lock is free
 
-abbrev pub item_numbers : List (ℕ × Event) → List ℕ
-item_numbers es = map (λ (e : ℕ × Event). e.0) es
+-- the number is that of a known entry with the lane
+abbrev pub IsKnownWith : ℕ → View → ℕ → Type 0
+IsKnownWith lane v n = (e : Event) × (lanes : List ℕ) × Contains lanes lane × Contains v.known (entry n e lanes)
 
--- the number and event are those of a known entry with the lane
-abbrev pub IsKnownWith : ℕ → View → (ℕ × Event) → Type 0
-IsKnownWith lane v x = (lanes : List ℕ) × Contains lanes lane × Contains v.known (entry x.0 x.1 lanes)
-
--- of a lane's list of events, told values and keeper
-pub record IsTied (table : TableId) (lane : ℕ) (told : List (List ℕ)) (items : List (ℕ × Event)) (its_table : TableId)
-    (its_lane : ℕ) (v : View) : Type 0 where
+-- of the numbers of a lane's events, told values and keeper
+pub record IsTied (table : TableId) (lane : ℕ) (told : List (List ℕ)) (list : List ℕ) (its_table : TableId) (its_lane : ℕ)
+    (v : View) : Type 0 where
   pub at : its_table ≡ table
   pub its_lane_is : its_lane ≡ lane
-  pub numbers : item_numbers items ≡ note_numbers (first_notes v.kept)
-  pub known : (x : ℕ × Event) → Contains items x → IsKnownWith lane v x
+  pub numbers : list ≡ note_numbers (first_notes v.kept)
+  pub known : (n : ℕ) → Contains list n → IsKnownWith lane v n
   pub above : IsAbove (reach step_word v) (first_notes v.kept)
   pub asked : AreKnown told v
 

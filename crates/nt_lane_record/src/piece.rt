@@ -1,9 +1,8 @@
 //! What closing a lane gives.
-use nt_event::Event;
 
-/// The list of one lane: its number, and its events with their numbers.
+/// The numbers of the events of one lane, the oldest first, and the lane's own number.
 #[derive(Drop)]
 pub struct Piece {
     pub lane: u32,
-    pub entries: Vec<(u64, Event)>,
+    pub numbers: Vec<u64>,
 }

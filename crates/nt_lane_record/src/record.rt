@@ -19,14 +19,14 @@ use nt_mark::{Keeper, Marks, Pass, Shared, Shows};
 use std::alloc::{AllocError, Global};
 use std::marker::{Model, PhantomData};
 
-/// A lane's number, the list of its events, per processor and class the greatest value asked on it,
-/// and its keeper.
+/// A lane's number, the numbers of its events, per processor and class the greatest value asked on
+/// it, and its keeper.
 #[derive(Drop)]
 pub struct Record<N: Plan + Shared> {
     number: u32,
     /// 16 values for each processor.
     told: Vec<u64>,
-    items: Vec<(u64, Event)>,
+    numbers: Vec<u64>,
     keeper: Keeper,
     of: PhantomData<N>,
 }
@@ -44,12 +44,12 @@ impl<N: Plan + Shared> Model for Record<N> {
       notes = keeper_notes s.keeper;
       told = told_rows N.script.cpus s.told.items;
       known = reach step_word (keeper_view s.keeper);
-      room = vec_capacity s.items - vec_len s.items;
+      room = vec_capacity s.numbers - vec_len s.numbers;
     } };
 
     ghost invariant = { λ s.
         (length s.told.items ≡ N.script.cpus * 16) ×
-        IsTied N.table s.number (told_rows N.script.cpus s.told.items) s.items.items
+        IsTied N.table s.number (told_rows N.script.cpus s.told.items) s.numbers.items
         (keeper_table s.keeper) (keeper_lane s.keeper) (keeper_view s.keeper) };
 }
 
@@ -72,27 +72,27 @@ impl<N: Plan + Shared> Record<N> {
         Ok(Record {
             number,
             told,
-            items: Vec::new(alloc),
+            numbers: Vec::new(alloc),
             keeper,
             of: PhantomData,
         })
     }
 
-    /// The lane's list of events, and its keeper.
+    /// The numbers of the lane's events, and its keeper.
     pub fn close(self) -> (Piece, Keeper)
         ensures { IsPieceOf N.table result.0 result.1 }
     {
         let Record {
             number,
             told: _,
-            items,
+            numbers,
             keeper,
             of: _,
         } = self;
         (
             Piece {
                 lane: number,
-                entries: items,
+                numbers,
             },
             keeper,
         )
@@ -111,7 +111,7 @@ impl<N: Plan + Shared> Record<N> {
         ensures same { (self.new.lane ≡ self.old.lane) × (self.new.notes ≡ self.old.notes) ×
             (self.new.told ≡ self.old.told) × (self.new.known ≡ self.old.known) }
     {
-        self.items.reserve(1)?;
+        self.numbers.reserve(1)?;
         Ok(())
     }
 
@@ -255,6 +255,7 @@ impl<N: Plan + Shared> Record<N> {
             } ∷ []))
             (told_then N.script.cpus n (as_asks asks.now) self.old.told) }
     {
+        let _event = event;
         marks.share(&mut self.keeper, pass);
         tell(&mut self.told, asks, n);
         let shown = Shown::<N, C> {
@@ -263,7 +264,7 @@ impl<N: Plan + Shared> Record<N> {
             of: PhantomData,
         };
         marks.note(&mut self.keeper, n, &shown);
-        self.items.push_reserved((n, *event));
+        self.numbers.push_reserved(n);
         marks.share(&mut self.keeper, pass);
     }
 }

@@ -50,13 +50,6 @@ Shows p ks n lanes others = (n ≡ length (passes p others).entries) × (IsEachO
     × (All (λ (v : View). All (IsOfKeeper ks) v.prefixes) (seat_views p others ks) × (All (WasAsked (passes p others)) (passes p others).looks
     × All (λ (v : View). All (Contains (passes p others).entries) v.known) (seat_views p others ks)))))))
 
--- what holds of each keeper's view
-each_keeper : (P : View → Type 0) (ks : List Keeper) → All P (keeper_views ks) → All (λ k. P (keeper_view k)) ks
-each_keeper P [] a = All-nil (λ (k : Keeper). P (keeper_view k))
-each_keeper P (k ∷ ks) a =
-    All-cons (λ (x : Keeper). P (keeper_view x)) k ks (All-head P (keeper_view k) (keeper_views ks) a)
-    (each_keeper P ks (All-tail P (keeper_view k) (keeper_views ks) a))
-
 -- the lanes of lists are those of their keepers
 pub lanes_are : (table : TableId) (ps : List Piece) (ks : List Keeper) → ArePiecesOf table ps ks → map (λ (p : Piece). p.lane) ps ≡ keeper_lanes ks
 lanes_are table [] [] a = refl
@@ -93,6 +86,4 @@ module _ (s : Script) (p : Pass) (list : List (ℕ × Event)) (ks : List Keeper)
         placed = subst (λ (xs : List (ℕ × Event)). ArePlaced xs es) is h;
         table = table;
         lists = lists;
-        knows = each_keeper (λ (v : View). All (Contains (pass_view p).entries) v.known) ks
-            (All-tail (λ (v : View). All (Contains (pass_view p).entries) v.known) (pass_view p) (keeper_views ks) shut.1.1.1.1.1.1.1);
       }

@@ -181,7 +181,7 @@ module _ (s : Script) (limit : ℕ) (ws : List WorkerState) (cpus : List CpuStat
   pieces = record {
     once = subst (λ (ns : List ℕ). IsEachOnce (lane_count s) ns) (sym (lanes_are m.table ps m.keepers m.lists)) m.closed.lanes;
     each = subst (λ (xs : List Event). All (IsItsPiece s xs) ps) same
-        (lists_are_pieces s limit w t.mine m.keepers (length es) history together m.closed whole m.table ps m.lists m.knows);
+        (lists_are_pieces s limit w t.mine m.keepers (length es) history together m.closed whole m.table ps m.lists);
   }
 
   no_more : HaveNoMore limit v cpus → (p : CpuNo) → p.0 < s.cpus → IsDoneWith s limit v p (t.mine p)

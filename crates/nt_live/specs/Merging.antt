@@ -12,7 +12,6 @@ use Rattle.nt_lane_record.specs.declared.piece.Piece.{Piece}
 use Rattle.nt_lane.specs.Pieces.{ArePiecesOf}
 use Rattle.nt_live.specs.Gathered.{IsItsPart}
 use Rattle.nt_live.specs.Gathering.{IsClosed}
-use Rattle.nt_live.specs.LanePieces.{KnowsOnly}
 use Rattle.nt_live.specs.Teams.{HaveNoMore}
 use Rattle.nt_live.specs.Workers.{WorkerState, pairs_of}
 
@@ -24,15 +23,14 @@ pub record ArePlaced (list : List (ℕ × Event)) (es : List Event) : Type 0 whe
   pub count : length es ≡ length list
   pub each : (x : ℕ × Event) → Contains list x → (d : Event) → get_or es x.0 d ≡ x.1
 
--- the marks and lanes of the pass are closed; these are its events in the order of their numbers, and the lists of the
--- lanes, whose keepers know no entries but those of the pass
+-- the marks and lanes of the pass are closed; these are its events in the order of their numbers, and the numbers of
+-- the lanes
 pub record IsMerged (s : Script) (v : View) (es : List Event) (ps : List Piece) : Type 0 where
   pub keepers : List Keeper
   pub closed : IsClosed s v keepers (length es)
   pub placed : ArePlaced (pairs_of v) es
   pub table : TableId
   pub lists : ArePiecesOf table ps keepers
-  pub knows : All (KnowsOnly v) keepers
 
 -- a run, of which each worker's list is exactly its processor's part
 pub record IsWorked (s : Script) (limit : ℕ) (ws : List WorkerState) (h : List Event) : Type 0 where

@@ -26,7 +26,7 @@ use nt_lane_record::Piece;
 use nt_mark::{Marks, Pass, Shared};
 use std::alloc::{AllocError, Global};
 
-/// The events of a pass in the order of their numbers, and the list of each lane.
+/// The events of a pass in the order of their numbers, and the numbers of each lane.
 #[derive(Drop)]
 struct Closed {
     events: Events,
@@ -86,8 +86,8 @@ fn ended(
     }
 }
 
-/// What [`gather_all`] makes of all workers: their history, and the list of each lane, with the
-/// events that the workers made on it, each with its number, the oldest first.
+/// What [`gather_all`] makes of all workers: their history, and for each lane the numbers of the
+/// events that the workers made on it, the oldest first.
 #[derive(Drop)]
 pub struct Gathered {
     pub history: History,
@@ -96,14 +96,14 @@ pub struct Gathered {
 
 /// Puts the events of all workers of a board together, each at its number, and makes the turns that
 /// are left by the robin rule: a settled run of N's script, where each processor makes at most N's
-/// turns. With it come the lists of the lanes.
+/// turns. With it come the numbers of the lanes.
 ///
 /// The workers are those that were made with the board, in order, so that their passes together
 /// hold all parts of N's table. What they made is a run, of which each worker's list is its
-/// processor's part and each lane's list the lane's piece. Where some processor has more to do, the
-/// turns of that run are taken again in memory, and the robin rule goes on from there: those turns
-/// are on no lane's list. AllocError comes where no memory was found; the board and the workers are
-/// gone then too.
+/// processor's part, and the events at each lane's numbers are the lane's piece. Where some
+/// processor has more to do, the turns of that run are taken again in memory, and the robin rule
+/// goes on from there: no lane has the numbers of those turns. AllocError comes where no memory was
+/// found; the board and the workers are gone then too.
 pub fn gather_all<'s, N: Plan + Shared>(
     alloc: Global,
     board: Board<'s, N>,

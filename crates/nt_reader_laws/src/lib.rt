@@ -103,8 +103,8 @@ pub fn advances_are_steps()
 {}
 
 /// In the history that closed passes and lanes show, the list of each lane's keeper is the piece of
-/// its lane. So is, with its events, each of the lists that closing the lanes gives beside these
-/// keepers, where no keeper knows entries but those of the pass.
+/// its lane. So are, with the events that stand at them, the numbers that closing the lanes gives
+/// beside these keepers.
 pub fn lanes_have_their_pieces()
     ensures numbers { LanesHavePieces }
     ensures entries { ListsArePieces }

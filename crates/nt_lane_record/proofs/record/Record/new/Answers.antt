@@ -1,12 +1,10 @@
 use Rattle.std.proofs.Common.{ap, subst, sym, ◌∙◌}
 use Rattle.std.proofs.lemmas.List.{length-replicate}
 use Rattle.std.specs.Prelude.{Contains, List, [], length, replicate, ℕ, ◌*◌, ◌≡◌}
-use Rattle.nt_event.specs.declared.events.Event.{Event}
 use Rattle.nt_mark.specs.declared.view.Note.{Note}
 use Rattle.nt_mark.specs.Names.{keeper_view}
 use Rattle.nt_mark.specs.Rule.{IsAbove}
 use Rattle.nt_mark.specs.Views.{note_numbers, reach, step_word}
-use Rattle.nt_lane_record.specs.Records.{item_numbers}
 use Rattle.nt_lane_record.proofs.Rows.{nothing_known}
 use Rattle.nt_lane_record.proofs.Tying.{no_item}
 use Rattle.nt_lane_record.proofs.record.Record.new.Goals as goal
@@ -22,8 +20,8 @@ invariant_of-result g c =
       record {
         at = k.table_is;
         its_lane_is = k.lane_is;
-        numbers = ap item_numbers none ∙ ap note_numbers (sym k.notes);
-        known = λ x h. no_item c.args.number (keeper_view c.args.keeper) x (subst (λ (l : List (ℕ × Event)). Contains l x) none h);
+        numbers = none ∙ ap note_numbers (sym k.notes);
+        known = λ x h. no_item c.args.number (keeper_view c.args.keeper) x (subst (λ (l : List ℕ). Contains l x) none h);
         above = subst (λ (l : List Note). IsAbove (reach step_word (keeper_view c.args.keeper)) l) (sym k.notes) tt;
         asked = nothing_known g.N.Plan.script.cpus (c.args.cpus * 16) told (keeper_view c.args.keeper) zeros;
       },

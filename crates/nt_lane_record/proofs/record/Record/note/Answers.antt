@@ -84,9 +84,9 @@ invariant_of-self g c =
       record {
         at = s2.same.0 ∙ (m.same.0 ∙ (s1.same.0 ∙ v.at));
         its_lane_is = s2.same.2 ∙ (m.same.1 ∙ (s1.same.2 ∙ v.its_lane_is));
-        numbers = numbers_more i.items.items c.push_reserved.new.self.items (first_notes k0.kept) (first_notes k3.kept) n e x v.numbers
+        numbers = numbers_more i.numbers.items c.push_reserved.new.self.items (first_notes k0.kept) (first_notes k3.kept) n x v.numbers
             c.push_reserved.ensures.items notes refl;
-        known = items_more i.number i.items.items c.push_reserved.new.self.items n e c.args.lanes.now k0 k3 c.push_reserved.ensures.items v.known
+        known = items_more i.number i.numbers.items c.push_reserved.new.self.items n e c.args.lanes.now k0 k3 c.push_reserved.ensures.items v.known
             (λ y h. k13 y (known_told k0 p0 k1 s1.keeper y h)) (subst (λ (y : ℕ). Contains c.args.lanes.now y) lane c.requires.touched)
             (k13 z (own_told k0 p0 k1 s1.keeper z c.requires.drew));
         above = subst (λ (l : List Note). IsAbove (reach step_word k3) l) (sym notes)
