@@ -60,8 +60,8 @@ abbrev pub IsKnownWith : ℕ → View → ℕ → Type 0
 IsKnownWith lane v n = (e : Event) × (lanes : List ℕ) × Contains lanes lane × Contains v.known (entry n e lanes)
 
 -- of the numbers of a lane's events, told values and keeper
-pub record IsTied (table : TableId) (lane : ℕ) (told : List (List ℕ)) (list : List ℕ) (its_table : TableId) (its_lane : ℕ)
-    (v : View) : Type 0 where
+pub record IsTied (table : TableId) (lane : ℕ) (told : List (List ℕ)) (list : List ℕ) (its_table : TableId)
+    (its_lane : ℕ) (v : View) : Type 0 where
   pub at : its_table ≡ table
   pub its_lane_is : its_lane ≡ lane
   pub numbers : list ≡ note_numbers (first_notes v.kept)

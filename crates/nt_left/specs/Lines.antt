@@ -124,7 +124,8 @@ thing_text input (left.Raised p owner frame level base) = codes "raised"
     ++ (frame_fields input p owner frame ++ (counted (codes "level") level ++ counted (codes "above") base))
 thing_text input (left.Inside p owner frame region count) = codes "inside"
     ++ (frame_fields input p owner frame ++ counted (region_word region) count)
-thing_text input (left.Holds p owner frame k) = codes "holds" ++ (frame_fields input p owner frame ++ lock_field input k)
+thing_text input (left.Holds p owner frame k) = codes "holds"
+    ++ (frame_fields input p owner frame ++ lock_field input k)
 thing_text input (left.Dpc d number queue cause) = codes "waits" ++ (field (decimal number) ++ (codes " dpc"
     ++ (dpc_field input d ++ (codes " as" ++ (cpu_field queue ++ stopped_text cause)))))
 thing_text input (left.Apc a number t cause) = codes "waits" ++ (field (decimal number) ++ (codes " apc"
