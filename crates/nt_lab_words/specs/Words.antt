@@ -1,6 +1,6 @@
 -- The words of the command line, without the program's name: which task they are.
 use Rattle.std.specs.Prelude.{◌≡◌, ◌∷◌, ◌&&◌, ◌||◌, ◌-◌, ◌==◌, ℕ, List, [], Option, Some, None, Bool, true, false}
-use Rattle.std.specs.Prelude.{codes}
+use Rattle.std.specs.Prelude.{codes, option_map}
 use Rattle.std.specs.Prelude.{get_or, length, not, option_and_then, take, is_some, if◌then◌else◌, ◌≤◌, IfSome}
 use Rattle.std.specs.Str.{bytes_eq}
 use Rattle.nt_ask.specs.declared.words.Form.{Form}
@@ -17,7 +17,7 @@ use Rattle.nt_lab_words.specs.declared.words.Order.TheVariants as order
 use Rattle.nt_lab_words.specs.declared.words.Task.{Task}
 use Rattle.nt_lab_words.specs.declared.words.Task.TheVariants.{Do, Help, Version}
 use Rattle.nt_lab_words.specs.declared.words.ThingKind.{ThingKind}
-use Rattle.nt_lab_words.specs.declared.words.ThingKind.TheVariants.{Apc, Dpc}
+use Rattle.nt_lab_words.specs.declared.words.ThingKind.TheVariants.{Apc, Dpc, Interrupt, Thread}
 use Rattle.nt_lab_words.specs.declared.words.Work.{Work}
 use Rattle.nt_lab_words.specs.declared.words.Work.TheVariants.{Ask, Draw, Left, Run, Tidy, Why}
 use Rattle.nt_lab_words.specs.Options.{options_of}
@@ -48,20 +48,49 @@ draw_of o = if is_some o.order || is_some o.seed || is_some o.turns then None el
 abbrev pub kind_word : ThingKind → List ℕ
 kind_word Dpc = codes "dpc"
 kind_word Apc = codes "apc"
+kind_word Thread = codes "thread"
+kind_word Interrupt = codes "int"
 
 -- the kind of a thing by its word
 abbrev pub kind_of : List ℕ → Option ThingKind
 kind_of word = if bytes_eq word (kind_word Dpc) then Some Dpc else
-    (if bytes_eq word (kind_word Apc) then Some Apc else None)
+    (if bytes_eq word (kind_word Apc) then Some Apc else
+    (if bytes_eq word (kind_word Thread) then Some Thread else
+    (if bytes_eq word (kind_word Interrupt) then Some Interrupt else None)))
+
+-- two words name an interrupt, its processor and its level; one word names another thing
+abbrev pub has_two_words : ThingKind → Bool
+has_two_words Dpc = false
+has_two_words Apc = false
+has_two_words Thread = false
+has_two_words Interrupt = true
+
+-- a level of an interrupt, 0 to 15
+abbrev pub is_level : List ℕ → Bool
+is_level word = is_some (number_up_to 15 word)
+
+-- the words behind the name of a thing, of one word or of two, of which the second is a level
+abbrev pub behind_name : Bool → List (List ℕ) → Option (List (List ℕ))
+behind_name two [] = None
+behind_name false (a ∷ rest) = Some rest
+behind_name true (a ∷ []) = None
+behind_name true (a ∷ b ∷ rest) = if is_level b then Some rest else None
+
+-- the number of events, where a word says one
+abbrev pub after_in : List (List ℕ) → Option (Option ℕ)
+after_in [] = Some None
+after_in (a ∷ []) = option_map Some (number_up_to EVENTS a)
+after_in (a ∷ b ∷ more) = None
+
+-- `why` of a thing of this kind, with these words behind that of the kind
+abbrev pub why_by : List (List ℕ) → ThingKind → Option Work
+why_by words kind = option_and_then (λ rest. option_map (Why kind) (after_in rest))
+    (behind_name (has_two_words kind) words)
 
 -- `why` with these words behind it: a thing, and perhaps a number of events
 abbrev pub why_of : List (List ℕ) → Option Work
 why_of [] = None
-why_of (a ∷ []) = None
-why_of (a ∷ b ∷ []) = option_and_then (λ kind. Some (Why kind None)) (kind_of a)
-why_of (a ∷ b ∷ c ∷ []) = option_and_then
-    (λ kind. option_and_then (λ n. Some (Why kind (Some n))) (number_up_to EVENTS c)) (kind_of a)
-why_of (a ∷ b ∷ c ∷ d ∷ more) = None
+why_of (a ∷ rest) = option_and_then (why_by rest) (kind_of a)
 
 -- the task of a word that stands alone
 abbrev pub plain_task : List ℕ → Option Task

@@ -10,8 +10,8 @@ mod words;
 
 pub use options::{OptionName, Options, OrderName};
 pub use words::{
-    Call, How, Order, Task, ThingKind, USAGE, USUAL, VERSION, Work, call_of, file_of, named_file,
-    third_word,
+    Call, How, Order, Task, ThingKind, USAGE, USUAL, VERSION, Work, call_of, file_of, fourth_word,
+    named_file, third_word,
 };
 
 #[cfg(test)]

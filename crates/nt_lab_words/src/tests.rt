@@ -97,6 +97,12 @@ fn things_have_a_kind_and_a_name(rt: HostRuntime) -> Result<(), Fail> {
     };
     assert!(rt; asks(alloc, &["why", "apc", "done", "13", "a"], why, true)?);
     assert!(rt; asks_nothing(alloc, &["why", "timer", "t"])?);
+    let int = Work::Why {
+        kind: ThingKind::Interrupt,
+        after: Some(12),
+    };
+    assert!(rt; asks(alloc, &["why", "int", "p1", "5", "12", "a"], int, true)?);
+    assert!(rt; asks_nothing(alloc, &["why", "int", "p1", "a"])?);
     assert!(rt; asks_nothing(alloc, &["why", "dpc"])?);
     assert!(rt; asks(alloc, &["left"], Work::Left, false)?);
     let given = owned(alloc, &["--help"])?;

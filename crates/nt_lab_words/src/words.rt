@@ -3,10 +3,11 @@ ghost use Rattle.std.specs.Prelude.{◌≡◌, [], IfSome, Some, get_or, map, op
 ghost use Rattle.nt_lab_words.specs.Options.{IsOptions};
 ghost use Rattle.nt_event.specs.declared.limits.TheConstants.{EVENTS};
 ghost use Rattle.nt_text.specs.Fields.{number_up_to};
-ghost use Rattle.nt_lab_words.specs.Words.{IsTask, IsWork, call_of, draw_of, file_of, is_file};
-ghost use Rattle.nt_lab_words.specs.Words.{kind_of, kind_word, order_by, plain_task, run_of};
-ghost use Rattle.nt_lab_words.specs.Words.{task_by, task_of};
-ghost use Rattle.nt_lab_words.specs.Words.{why_of, with_file};
+ghost use Rattle.nt_lab_words.specs.Words.{IsTask, IsWork, after_in, behind_name, call_of, draw_of};
+ghost use Rattle.nt_lab_words.specs.Words.{file_of, has_two_words, is_file, is_level, kind_of};
+ghost use Rattle.nt_lab_words.specs.Words.{kind_word};
+ghost use Rattle.nt_lab_words.specs.Words.{order_by, plain_task, run_of, task_by, task_of, why_of};
+ghost use Rattle.nt_lab_words.specs.Words.{with_file};
 
 use crate::options::{Options, OrderName, options_of};
 use nt_ask::{Form, form_of};
@@ -28,7 +29,7 @@ usage: ntlab FORM [FILE]
                           a picture of a run: SVG, or text for a terminal
   --help, --version
 
-THING: dpc NAME or apc NAME
+THING: dpc NAME, apc NAME, thread NAME or int CPU LEVEL
 Without FILE the text is read from standard input.
 ";
 
@@ -69,6 +70,10 @@ pub enum ThingKind {
     Dpc,
     /// An APC object.
     Apc,
+    /// A thread.
+    Thread,
+    /// An interrupt, which is named by a processor and a level.
+    Interrupt,
 }
 
 impl ThingKind {
@@ -79,6 +84,8 @@ impl ThingKind {
         match self {
             ThingKind::Dpc => "dpc",
             ThingKind::Apc => "apc",
+            ThingKind::Thread => "thread",
+            ThingKind::Interrupt => "int",
         }
     }
 }
@@ -95,8 +102,8 @@ pub enum Work {
         how: How,
         as_schedule: bool,
     },
-    /// `why`: what a thing of this kind, whose name is the third word, waits for after so many
-    /// events.
+    /// `why`: what a thing of this kind waits for after so many events. The words from the third on
+    /// name it.
     Why {
         kind: ThingKind,
         after: Option<u32>,
@@ -190,8 +197,22 @@ fn kind_of(word: &[u8]) -> Option<ThingKind>
         Some(ThingKind::Dpc)
     } else if is_word(word, ThingKind::Apc.word().as_bytes()) {
         Some(ThingKind::Apc)
+    } else if is_word(word, ThingKind::Thread.word().as_bytes()) {
+        Some(ThingKind::Thread)
+    } else if is_word(word, ThingKind::Interrupt.word().as_bytes()) {
+        Some(ThingKind::Interrupt)
     } else {
         None
+    }
+}
+
+/// Whether two words name the thing, and not one.
+fn has_two_words(kind: ThingKind) -> bool
+    ensures { result ≡ has_two_words kind }
+{
+    match kind {
+        ThingKind::Interrupt => true,
+        ThingKind::Dpc | ThingKind::Apc | ThingKind::Thread => false,
     }
 }
 
@@ -203,21 +224,54 @@ fn after_of(word: &[u8]) -> Option<u32>
     Some(after as u32)
 }
 
+/// The number of events that the word behind the name of a thing says, where there is one.
+fn after_in(words: &[String]) -> Option<Option<u32>>
+    ensures { result ≡ after_in (map string_bytes words.now) }
+{
+    match words {
+        [] => Some(None),
+        [last] => Some(Some(after_of(last.as_bytes())?)),
+        _ => None,
+    }
+}
+
+/// Whether a word is a level, 0 to 15.
+fn is_level(word: &[u8]) -> bool
+    ensures { result ≡ is_level word.now }
+{
+    number(word, 15).is_some()
+}
+
+/// The words behind the name of a thing of this kind.
+fn behind_name(kind: ThingKind, words: &[String]) -> Option<&[String]>
+    ensures { option_map (λ rest. map string_bytes rest.now) result
+        ≡ behind_name (has_two_words kind) (map string_bytes words.now) }
+{
+    if has_two_words(kind) {
+        match words {
+            [_, level, rest @ ..] if is_level(level.as_bytes()) => Some(rest),
+            _ => None,
+        }
+    } else {
+        match words {
+            [_, rest @ ..] => Some(rest),
+            [] => None,
+        }
+    }
+}
+
 /// `why` with these words behind it: a thing, and perhaps a number of events.
 fn why_of(words: &[String]) -> Option<Work>
     ensures value { result ≡ why_of (map string_bytes words.now) }
     ensures within { IfSome result IsWork }
 {
     match words {
-        [kind, _] => Some(Work::Why {
-            kind: kind_of(kind.as_bytes())?,
-            after: None,
-        }),
-        [kind, _, last] => Some(Work::Why {
-            kind: kind_of(kind.as_bytes())?,
-            after: Some(after_of(last.as_bytes())?),
-        }),
-        _ => None,
+        [first, rest @ ..] => {
+            let kind = kind_of(first.as_bytes())?;
+            let after = after_in(behind_name(kind, rest)?)?;
+            Some(Work::Why { kind, after })
+        }
+        [] => None,
     }
 }
 
@@ -321,12 +375,22 @@ pub fn named_file(words: &[String], call: Call) -> Option<&str>
     }
 }
 
-/// The third word, which names the thing of `why`; no bytes where there is none.
+/// The third word, with which the name of the thing of `why` begins; no bytes where there is none.
 pub fn third_word(words: &[String]) -> &str
     ensures { result.now ≡ get_or (map string_bytes words.now) 2 [] }
 {
     match words {
         [_, _, third, ..] => third.as_str(),
+        _ => "",
+    }
+}
+
+/// The fourth word, which is the level of an interrupt; no bytes where there is none.
+pub fn fourth_word(words: &[String]) -> &str
+    ensures { result.now ≡ get_or (map string_bytes words.now) 3 [] }
+{
+    match words {
+        [_, _, _, fourth, ..] => fourth.as_str(),
         _ => "",
     }
 }
