@@ -1,6 +1,6 @@
 -- What is replied with a run that a text shows.
 use Rattle.std.proofs.Common.{inl, inr}
-use Rattle.std.specs.Prelude.{◌≡◌, Bool, List, true, ℕ}
+use Rattle.std.specs.Prelude.{◌≡◌, List, true, ℕ}
 use Rattle.nt_ask.specs.declared.answer.Status.{Status}
 use Rattle.nt_ask.specs.declared.answer.Status.TheVariants as exit
 use Rattle.nt_event.specs.Fitting.{events_fit}
@@ -14,6 +14,7 @@ use Rattle.nt_shown.specs.declared.refusal.ShownRefusal.{ShownRefusal}
 use Rattle.nt_shown.specs.declared.showing.ShownRun.{ShownRun}
 use Rattle.nt_shown.specs.Shown.{IsShown, IsUnshown}
 use Rattle.nt_bench.specs.declared.friendly.Friendly.{Friendly}
+use Rattle.nt_bench.specs.declared.running.Shape.{Shape}
 use Rattle.nt_bench.specs.Reasons.{IsOfUsual, IsReasonsReply, IsWhyReply}
 use Rattle.nt_bench.specs.Running.{IsAnyRun, IsRefusedIn, IsRunReply, IsShownReply, IsToldOf, IsUnshownReply}
 
@@ -26,41 +27,41 @@ pub turns_named : (r : ShownRun) → IsAnyRun r → turns_fit r.input.script (sc
 turns_named r any = turns_of_fit r.input.script r.gone.history.events (run_named r any)
 
 -- what is replied with the run that a text shows is replied to the text
-pub shown_reply : (how : How) (as_schedule : Bool) (f : Friendly) (r : ShownRun) (status : Status) (text : List ℕ) →
-    IsShown (strict_text f.bytes.now) how r → IsRunReply as_schedule r status text → IsShownReply how as_schedule f status text
-shown_reply how as_schedule f r exit.Ok text shown reply = record { run = r; shown = shown; report = reply }
-shown_reply how as_schedule f r exit.Fails text shown reply = absurd reply
-shown_reply how as_schedule f r exit.Unknown text shown reply = absurd reply
-shown_reply how as_schedule f r exit.NoExpectation text shown reply = absurd reply
-shown_reply how as_schedule f r exit.NoWitness text shown reply = absurd reply
-shown_reply how as_schedule f r exit.TooManyTurns text shown reply = absurd reply
-shown_reply how as_schedule f r exit.Memory text shown reply = reply
-shown_reply how as_schedule f r exit.Refused text shown reply = absurd reply
-shown_reply how as_schedule f r exit.Usage text shown reply = absurd reply
-shown_reply how as_schedule f r exit.Read text shown reply = absurd reply
-shown_reply how as_schedule f r exit.Write text shown reply = absurd reply
-shown_reply how as_schedule f r exit.TooLong text shown reply = absurd reply
+pub shown_reply : (how : How) (form : Shape) (f : Friendly) (r : ShownRun) (status : Status) (text : List ℕ) →
+    IsShown (strict_text f.bytes.now) how r → IsRunReply form r status text → IsShownReply how form f status text
+shown_reply how form f r exit.Ok text shown reply = record { run = r; shown = shown; written = reply }
+shown_reply how form f r exit.Fails text shown reply = absurd reply
+shown_reply how form f r exit.Unknown text shown reply = absurd reply
+shown_reply how form f r exit.NoExpectation text shown reply = absurd reply
+shown_reply how form f r exit.NoWitness text shown reply = absurd reply
+shown_reply how form f r exit.TooManyTurns text shown reply = absurd reply
+shown_reply how form f r exit.Memory text shown reply = reply
+shown_reply how form f r exit.Refused text shown reply = absurd reply
+shown_reply how form f r exit.Usage text shown reply = absurd reply
+shown_reply how form f r exit.Read text shown reply = absurd reply
+shown_reply how form f r exit.Write text shown reply = absurd reply
+shown_reply how form f r exit.TooLong text shown reply = absurd reply
 
 -- why a text shows no run is replied to it
-pub unshown_reply : (how : How) (as_schedule : Bool) (f : Friendly) (status : Status) (text : List ℕ) →
-    IsUnshownReply f status text → IsShownReply how as_schedule f status text
-unshown_reply how as_schedule f exit.Ok text reply = absurd reply
-unshown_reply how as_schedule f exit.Fails text reply = absurd reply
-unshown_reply how as_schedule f exit.Unknown text reply = absurd reply
-unshown_reply how as_schedule f exit.NoExpectation text reply = absurd reply
-unshown_reply how as_schedule f exit.NoWitness text reply = absurd reply
-unshown_reply how as_schedule f exit.TooManyTurns text reply = absurd reply
-unshown_reply how as_schedule f exit.Memory text reply = reply
-unshown_reply how as_schedule f exit.Refused text reply = reply
-unshown_reply how as_schedule f exit.Usage text reply = absurd reply
-unshown_reply how as_schedule f exit.Read text reply = absurd reply
-unshown_reply how as_schedule f exit.Write text reply = absurd reply
-unshown_reply how as_schedule f exit.TooLong text reply = absurd reply
+pub unshown_reply : (how : How) (form : Shape) (f : Friendly) (status : Status) (text : List ℕ) →
+    IsUnshownReply f status text → IsShownReply how form f status text
+unshown_reply how form f exit.Ok text reply = absurd reply
+unshown_reply how form f exit.Fails text reply = absurd reply
+unshown_reply how form f exit.Unknown text reply = absurd reply
+unshown_reply how form f exit.NoExpectation text reply = absurd reply
+unshown_reply how form f exit.NoWitness text reply = absurd reply
+unshown_reply how form f exit.TooManyTurns text reply = absurd reply
+unshown_reply how form f exit.Memory text reply = reply
+unshown_reply how form f exit.Refused text reply = reply
+unshown_reply how form f exit.Usage text reply = absurd reply
+unshown_reply how form f exit.Read text reply = absurd reply
+unshown_reply how form f exit.Write text reply = absurd reply
+unshown_reply how form f exit.TooLong text reply = absurd reply
 
 -- the same of `why`
 pub why_reply : (kind : ThingKind) (f : Friendly) (r : ShownRun) (status : Status) (text : List ℕ) → IsOfUsual f r →
-    IsReasonsReply r kind f.named.thing.now status text → IsWhyReply kind f status text
-why_reply kind f r exit.Ok text shown reply = (r, shown)
+    IsReasonsReply r kind f.named status text → IsWhyReply kind f status text
+why_reply kind f r exit.Ok text shown reply = (r, shown, reply)
 why_reply kind f r exit.Fails text shown reply = absurd reply
 why_reply kind f r exit.Unknown text shown reply = absurd reply
 why_reply kind f r exit.NoExpectation text shown reply = absurd reply

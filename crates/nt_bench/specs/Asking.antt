@@ -20,6 +20,7 @@ abbrev pub IsBadLine : List ℕ → ℕ → Fault → Type 0
 IsBadLine strict line (fault.Script kind) = asking strict ≡ Err (in_script line kind)
 IsBadLine strict line (fault.Expect kind) = asking strict ≡ Err (in_expectations line kind)
 IsBadLine strict line (fault.Schedule kind) = ⊥
+IsBadLine strict line (fault.Report kind) = ⊥
 
 -- a strict text is refused so
 abbrev pub IsRefusedBy : List ℕ → AskRefusal → Type 0

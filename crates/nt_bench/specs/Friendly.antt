@@ -13,10 +13,11 @@ use Rattle.nt_lab_words.specs.Words.{file_of}
 use Rattle.nt_bench.specs.declared.friendly.Friendly.{Friendly}
 use Rattle.nt_bench.specs.declared.friendly.Named.{Named}
 
--- these words name them: the file is the last word, if there is one, and the thing the third
+-- these words name them: the file is the last word, if there is one, the thing the third, and a level the fourth
 pub record AreNamed (words : List (List ℕ)) (call : Option Call) (n : Named) : Type 0 where
   pub file_is : option_map (λ name. name.now) n.file ≡ file_of words call
   pub thing_is : n.thing.now ≡ get_or words 2 []
+  pub level_is : n.level.now ≡ get_or words 3 []
 
 -- both texts are as long as an input may be, and the one is what the other means
 pub record IsFriendly (f : Friendly) : Type 0 where

@@ -1,5 +1,5 @@
 -- What a call of the program finds out, what it writes, and when each status comes.
-use Rattle.std.specs.Prelude.{◌≡◌, ◌⊎◌, ◌+◌, ◌<◌, ◌≤◌, ℕ, List, None, Option, Some, codes, false, length}
+use Rattle.std.specs.Prelude.{◌≡◌, ◌⊎◌, ◌+◌, ◌<◌, ◌≤◌, ℕ, List, None, Option, Some, codes, length}
 use Rattle.nt_ask.specs.declared.answer.Status.{Status}
 use Rattle.nt_ask.specs.declared.answer.Status.TheVariants as exit
 use Rattle.nt_friendly.specs.Text.{strict_text}
@@ -17,9 +17,10 @@ use Rattle.nt_lab_words.specs.declared.words.Work.{Work}
 use Rattle.nt_lab_words.specs.declared.words.Work.TheVariants.{Ask, Draw, Left, Run, Tidy, Why}
 use Rattle.nt_bench.specs.Asking.{IsAskedIn}
 use Rattle.nt_bench.specs.declared.friendly.Named.{Named}
+use Rattle.nt_bench.specs.declared.running.Shape.TheVariants as shape
 use Rattle.nt_bench.specs.Friendly.{AreNamed, IsFriendly}
 use Rattle.nt_bench.specs.Reasons.{IsWhyReply}
-use Rattle.nt_bench.specs.Running.{IsShownReply}
+use Rattle.nt_bench.specs.Running.{IsShownReply, draw_shape, run_shape}
 use Rattle.nt_bench.specs.Tidying.{IsTidiedIn}
 use Rattle.nt_lab_words.specs.Words.{call_of}
 use Rattle.nt_bench.specs.Writing.{IsWrittenTo, Stores, stream_of}
@@ -40,9 +41,9 @@ long_line = codes "input too long\n"
 abbrev pub IsDone : Work → Friendly → Status → List ℕ → Type 0
 IsDone (Ask form) f status text = IsAskedIn form f status text
 IsDone Tidy f status text = IsTidiedIn f status text
-IsDone (Run how as_schedule) f status text = IsShownReply how as_schedule f status text
-IsDone Left f status text = IsShownReply USUAL false f status text
-IsDone (Draw since until as_text) f status text = IsShownReply USUAL false f status text
+IsDone (Run how as_schedule) f status text = IsShownReply how (run_shape as_schedule) f status text
+IsDone Left f status text = IsShownReply USUAL shape.Left f status text
+IsDone (Draw since until as_text) f status text = IsShownReply USUAL (draw_shape since until as_text) f status text
 IsDone (Why kind after) f status text = IsWhyReply kind f status text
 
 -- the text of these bytes from this file, as it was written and made strict; and this is done with it

@@ -1,5 +1,5 @@
 -- Where texts are written, and what stands there then.
-use Rattle.std.specs.Prelude.{◌≡◌, ◌⊎◌, ℕ, List, Option}
+use Rattle.std.specs.Prelude.{◌≡◌, ◌⊎◌, ◌∷◌, [], ℕ, List, Option}
 use Rattle.std.specs.Io.KnownBytes.{append_known}
 use Rattle.nt_ask.specs.declared.answer.Status.{Status}
 use Rattle.nt_ask.specs.declared.answer.Status.TheVariants as exit
@@ -36,6 +36,11 @@ stores out out_faults err err_faults = record { out = store out out_faults; err 
 abbrev pub IsPut : List ℕ → Store → Store → Type 0
 IsPut text old new = (new.held ≡ append_known old.held text) ⊎
     (Rose old.faults new.faults × AddsFrontOf text old.held new.held)
+
+-- the texts were put one after another
+abbrev pub ArePut : List (List ℕ) → Store → Store → Type 0
+ArePut [] old new = new ≡ old
+ArePut (text ∷ texts) old new = (between : Store) × IsPut text old between × ArePut texts between new
 
 -- an answer was added and the call answers its status; or the sink failed, and a front part was added
 abbrev pub IsWritten : Status → List ℕ → Store → Store → Status → Type 0

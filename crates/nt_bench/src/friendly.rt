@@ -16,8 +16,10 @@ use std::alloc::Global;
 pub(crate) struct Named<'a> {
     /// The file of the text; None where it is read from standard input.
     pub(crate) file: Option<&'a str>,
-    /// The thing of `why`.
+    /// The thing of `why`, of an interrupt its processor.
     pub(crate) thing: &'a str,
+    /// The level of an interrupt.
+    pub(crate) level: &'a str,
 }
 
 /// A text as somebody wrote it, and the strict text that it means.

@@ -1,11 +1,12 @@
 //! What is replied with a run that a text shows.
-ghost use Rattle.std.specs.Prelude.{◌≡◌, IfOk, false, true};
+ghost use Rattle.std.specs.Prelude.{◌≡◌, IfOk};
 ghost use Rattle.nt_friendly.specs.Text.{strict_text};
 ghost use Rattle.nt_lab.specs.Replies.{text_of};
 ghost use Rattle.nt_lab_words.specs.Words.{IsHow};
+ghost use Rattle.nt_left.specs.Lines.{left_text};
 ghost use Rattle.nt_log.specs.Schedules.{schedule_of, schedule_text};
 ghost use Rattle.nt_bench.specs.Friendly.{IsFriendly};
-ghost use Rattle.nt_bench.specs.Running.{IsAnyRun, IsRunReply, IsShownReply, is_schedule};
+ghost use Rattle.nt_bench.specs.Running.{IsAnyRun, IsRunReply, IsShownReply, IsTextOf, left_in};
 
 use crate::friendly::Friendly;
 use crate::reply::made;
@@ -20,7 +21,7 @@ use nt_orders::Went;
 use nt_shown::{ShownRun, shown_run};
 use nt_text::put_digits;
 use nt_view::view;
-use nt_why::{Object, print_reasons, why};
+use nt_why::{Thing, print_reasons, why};
 use std::alloc::{AllocError, Global};
 
 /// What is written of a run.
@@ -37,23 +38,7 @@ pub(crate) enum Shape {
     /// The same as text, for a terminal.
     Lines(Span),
     /// Why a thing has not run after so many events.
-    Reasons { thing: Object, after: u32 },
-}
-
-impl Shape {
-    /// Whether it is the schedule.
-    fn is_schedule(self) -> bool
-        ensures { result ≡ is_schedule self }
-    {
-        match self {
-            Shape::Schedule => true,
-            Shape::Report
-            | Shape::Left
-            | Shape::Picture(_)
-            | Shape::Lines(_)
-            | Shape::Reasons { .. } => false,
-        }
-    }
+    Reasons { thing: Thing, after: u32 },
 }
 
 /// The schedule of a run.
@@ -91,6 +76,7 @@ fn report_in(alloc: Global, run: &ShownRun) -> Result<Vec<u8>, AllocError>
 /// What is left at the end of a run.
 fn left_in(alloc: Global, run: &ShownRun) -> Result<Vec<u8>, AllocError>
     requires { IsAnyRun run.now }
+    ensures { IfOk result (λ text. text.items ≡ left_text run.now.input (left_in run.now)) }
 {
     let left = left(alloc, &run.input.script, &run.gone.history)?;
     print_left(alloc, &run.input, left.as_slice())
@@ -100,20 +86,19 @@ fn left_in(alloc: Global, run: &ShownRun) -> Result<Vec<u8>, AllocError>
 fn reasons_in(
     alloc: Global,
     run: &ShownRun,
-    thing: Object,
+    thing: &Thing,
     after: u32,
 ) -> Result<Vec<u8>, AllocError>
     requires { IsAnyRun run.now }
 {
-    let reasons = why(alloc, &run.input.script, &run.gone.history, after, thing)?;
-    print_reasons(alloc, &run.input, thing, reasons.as_slice())
+    let reasons = why(alloc, &run.input.script, &run.gone.history, after, *thing)?;
+    print_reasons(alloc, &run.input, *thing, reasons.as_slice())
 }
 
 /// What is written of a run in this shape.
 fn text_in(alloc: Global, run: &ShownRun, shape: Shape) -> Result<Vec<u8>, AllocError>
     requires { IsAnyRun run.now }
-    ensures { IfOk result (λ text. is_schedule shape ≡ true → text.items ≡
-        schedule_text run.now.input (schedule_of run.now.gone.history)) }
+    ensures { IfOk result (λ text. IsTextOf shape run.now text.items) }
 {
     match shape {
         Shape::Report => report_in(alloc, run),
@@ -121,14 +106,14 @@ fn text_in(alloc: Global, run: &ShownRun, shape: Shape) -> Result<Vec<u8>, Alloc
         Shape::Left => left_in(alloc, run),
         Shape::Picture(span) => draw(alloc, &run.input, &run.gone.history, span),
         Shape::Lines(span) => draw_text(alloc, &run.input, &run.gone.history, span),
-        Shape::Reasons { thing, after } => reasons_in(alloc, run, thing, after),
+        Shape::Reasons { thing, after } => reasons_in(alloc, run, &thing, after),
     }
 }
 
 /// What is replied with a run.
 pub(crate) fn shown_as(alloc: Global, run: &ShownRun, shape: Shape) -> Reply
     requires { IsAnyRun run.now }
-    ensures { IsRunReply (is_schedule shape) run.now result.status (text_of result.text) }
+    ensures { IsRunReply shape run.now result.status (text_of result.text) }
 {
     match text_in(alloc, run, shape) {
         Ok(text) => made(Status::Ok, text),
@@ -140,8 +125,7 @@ pub(crate) fn shown_as(alloc: Global, run: &ShownRun, shape: Shape) -> Reply
 pub(crate) fn run_in(alloc: Global, how: How, shape: Shape, friendly: &Friendly<'_>) -> Reply
     requires friendly { IsFriendly friendly.now }
     requires how { IsHow how }
-    ensures { IsShownReply how (is_schedule shape) friendly.now result.status
-        (text_of result.text) }
+    ensures { IsShownReply how shape friendly.now result.status (text_of result.text) }
 {
     match shown_run(alloc, friendly.tidied.text.as_slice(), how) {
         Ok(run) => shown_as(alloc, &run, shape),

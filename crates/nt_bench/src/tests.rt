@@ -372,7 +372,19 @@ fn reasons_are_told(rt: HostRuntime) -> Result<(), Fail> {
     let script = RAISED.as_bytes();
     let found = program(alloc, &["why", "dpc", "work", "3"], script)?;
     assert!(rt; found.0 == Status::Ok && !found.1.is_empty());
-    let text = "the script has no apc object of the name work\n";
+    let found = program(alloc, &["why", "int", "0", "5"], script)?;
+    assert!(rt; found.0 == Status::Ok && !found.1.is_empty());
+    let text = "the script has no int p9 5\n";
+    assert!(rt;
+        tells(
+            alloc,
+            &["why", "int", "p9", "5"],
+            script,
+            Status::Refused,
+            text
+        )?
+    );
+    let text = "the script has no apc work\n";
     assert!(rt;
         tells(
             alloc,

@@ -1,11 +1,11 @@
 //! What is done with the bytes of an input.
-ghost use Rattle.std.specs.Prelude.{◌≡◌, ◌≤◌, false, length};
+ghost use Rattle.std.specs.Prelude.{◌≡◌, ◌≤◌, length};
 ghost use Rattle.nt_friendly.specs.Text.{line_numbers, strict_text};
 ghost use Rattle.nt_lab.specs.Replies.{text_of};
 ghost use Rattle.nt_text.specs.declared.lines.TheConstants.{INPUT_LIMIT};
 ghost use Rattle.nt_bench.specs.Friendly.{IsFriendly};
 ghost use Rattle.nt_bench.specs.Outcome.{IsDone, IsFoundIn};
-ghost use Rattle.nt_bench.specs.Running.{is_schedule};
+ghost use Rattle.nt_bench.specs.Running.{draw_shape, run_shape};
 ghost use Rattle.nt_lab_words.specs.Words.{IsWork};
 
 use crate::asking::asked_in;
@@ -24,7 +24,7 @@ use std::alloc::Global;
 
 /// The shape of `run`.
 fn run_shape(as_schedule: bool) -> Shape
-    ensures { is_schedule result ≡ as_schedule }
+    ensures { result ≡ run_shape as_schedule }
 {
     if as_schedule {
         Shape::Schedule
@@ -35,7 +35,7 @@ fn run_shape(as_schedule: bool) -> Shape
 
 /// The shape of `draw`, from this event to that one, else all of them.
 fn draw_shape(from: Option<u32>, to: Option<u32>, as_text: bool) -> Shape
-    ensures { is_schedule result ≡ false }
+    ensures { result ≡ draw_shape from to as_text }
 {
     let span = Span {
         from: from.unwrap_or(0),

@@ -1,18 +1,21 @@
 //! The top call: from the words and the bytes in to the bytes out.
-ghost use Rattle.std.specs.Prelude.{◌≡◌, ◌≢◌, Some, map, string_bytes};
+ghost use Rattle.std.specs.Prelude.{◌≡◌, ◌≢◌, ◌∷◌, [], Some, codes, map, string_bytes};
 ghost use Rattle.nt_lab.specs.Replies.{memory_line, text_of};
 ghost use Rattle.nt_outside.specs.Sides.{store, supply};
 ghost use Rattle.nt_bench.specs.Friendly.{AreNamed};
 ghost use Rattle.nt_bench.specs.Outcome.{IsAnswered, IsFoundBy, IsFoundFrom, IsFoundOf};
 ghost use Rattle.nt_lab_words.specs.Words.{IsTask, IsWork, call_of};
-ghost use Rattle.nt_bench.specs.Writing.{IsPut, IsWritten, IsWrittenTo, stores, stream_of};
+ghost use Rattle.nt_bench.specs.Writing.{ArePut, IsPut, IsWritten, IsWrittenTo, stores};
+ghost use Rattle.nt_bench.specs.Writing.{stream_of};
 
 use crate::friendly::Named;
 use crate::reply::{Stream, stream_of};
 use crate::text::reply_to_bytes;
 use nt_ask::Status;
 use nt_lab::{Reply, line, no_memory};
-use nt_lab_words::{Call, Task, USAGE, VERSION, Work, call_of, named_file, third_word};
+use nt_lab_words::{
+    Call, Task, USAGE, VERSION, Work, call_of, fourth_word, named_file, third_word,
+};
 use nt_outside::{ReadRefusal, Sink, Source, WriteFault, read_all, write_all};
 use nt_text::INPUT_LIMIT;
 use std::alloc::Global;
@@ -55,6 +58,7 @@ fn named_by(words: &[String], call: Call) -> Named<'_>
     Named {
         file: named_file(words, call),
         thing: third_word(words),
+        level: fourth_word(words),
     }
 }
 
@@ -122,7 +126,10 @@ pub fn starved<E: Sink>(err: &mut E) -> Status
 
 /// What is told and answered where the file of this name can't be opened.
 pub fn unopened<E: Sink>(name: &str, err: &mut E) -> Status
-    ensures { result ≡ Status.Read }
+    ensures status { result ≡ Status.Read }
+    ensures told { ArePut (codes "cannot open " ∷ name.now ∷ codes "\n" ∷ [])
+        (store (E.held err.old) (E.faults err.old))
+        (store (E.held err.new) (E.faults err.new)) }
 {
     tell(b"cannot open ", err);
     tell(name.as_bytes(), err);

@@ -94,9 +94,7 @@ pub(crate) fn unshown(alloc: Global, friendly: &Friendly<'_>, refusal: ShownRefu
         ShownRefusal::Schedule { line, kind } => {
             friendly.refused(alloc, line, Fault::Schedule(kind))
         }
-        ShownRefusal::Report { line, kind } => {
-            friendly.refused(alloc, line, Fault::Schedule(kind))
-        }
+        ShownRefusal::Report { line, kind } => friendly.refused(alloc, line, Fault::Report(kind)),
         ShownRefusal::Turn { at, kind } => turn_refused(alloc, friendly, at, kind),
         ShownRefusal::Event(number) => event_refused(alloc, friendly, number),
         ShownRefusal::NoMemory => no_memory(),
