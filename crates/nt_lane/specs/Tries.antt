@@ -52,7 +52,7 @@ pub record IsNotDone (s : Script) (st : Stand) (job : Job) (v w : View) (r : Act
   pub cause : IsRefused s found st job r
   pub learns : Learns v w
 
-abbrev pub IsTried : Script → Stand → Job → View → View → Tried → Type 0
-IsTried s st job v w (Done a) = IsDone s st job v w a
-IsTried s st job v w (Refused r) = IsNotDone s st job v w r
-IsTried s st job v w (Again needs) = Learns v w
+abbrev pub IsTried : Script → Stand → Job → View → View → Acted → Tried → Type 0
+IsTried s st job v w a Done = IsDone s st job v w a
+IsTried s st job v w a (Refused r) = IsNotDone s st job v w r
+IsTried s st job v w a (Again needs) = Learns v w

@@ -1,5 +1,5 @@
 //! An act over locked lanes.
-ghost use Rattle.std.specs.Prelude.{◌≡◌, ◌≤◌, IfErr, IfOk, IsTrue};
+ghost use Rattle.std.specs.Prelude.{◌≡◌, ◌≤◌, IfErr, IsTrue, OnOk};
 ghost use Rattle.nt_event.specs.Lanes.{lane_count};
 ghost use Rattle.nt_event.specs.Acts.{StandFits, job_fits};
 ghost use Rattle.nt_lane.specs.Tries.{IsDone, IsNotDone};
@@ -17,7 +17,8 @@ use nt_mark::{Marks, Pass, Shared};
 use std::sync::Wait;
 
 /// Makes the event of a job for a processor that stands so: takes the locks that it foresees, in
-/// order, and tries under them; with other needs again, until it is done. It may wait.
+/// order, and tries under them; with other needs again, until it is done. What was made is written
+/// in place. It may wait.
 pub(crate) fn act_under<'s, N: Plan + Shared, R: Wait>(
     rt: &R,
     lanes: &Lanes<'s, N>,
@@ -25,7 +26,8 @@ pub(crate) fn act_under<'s, N: Plan + Shared, R: Wait>(
     pass: &mut Pass,
     job: &Job,
     stand: &StandView,
-) -> Result<Acted, ActRefusal>
+    acted: &mut Acted,
+) -> Result<(), ActRefusal>
     requires table { (table_of marks.now ≡ N.table) × (pass_table pass.old ≡ N.table) }
     requires marks { (cpus_of marks.now ≡ N.script.cpus) ×
         (lanes_of marks.now ≡ lane_count N.script) }
@@ -33,8 +35,8 @@ pub(crate) fn act_under<'s, N: Plan + Shared, R: Wait>(
     requires job { IsTrue (job_fits N.script job.now) }
     requires stand { StandFits N.script stand.now }
     ensures table { pass_table pass.new ≡ N.table }
-    ensures done { IfOk result
-        (λ a. IsDone N.script stand.now job.now (pass_view pass.old) (pass_view pass.new) a) }
+    ensures done { OnOk result
+        (IsDone N.script stand.now job.now (pass_view pass.old) (pass_view pass.new) acted.new) }
     ensures refused { IfErr result
         (λ r. IsNotDone N.script stand.now job.now (pass_view pass.old) (pass_view pass.new) r) }
 {
@@ -42,8 +44,8 @@ pub(crate) fn act_under<'s, N: Plan + Shared, R: Wait>(
     let mut needs = foresee(rt, lanes, job, stand);
     for _ in rt.forever() {
         let mut locked = lock(rt, lanes, &needs);
-        match try_under(&mut locked, script, marks, pass, job, stand) {
-            Tried::Done(acted) => return Ok(acted),
+        match try_under(&mut locked, script, marks, pass, job, stand, acted) {
+            Tried::Done => return Ok(()),
             Tried::Refused(refusal) => return Err(refusal),
             Tried::Again(more) => needs = more,
         }

@@ -333,12 +333,12 @@ impl<'l, 's, N: Plan + Shared> Locked<'l, 's, N> {
     ghost use Rattle.nt_event.specs.Acts.{StandFits, job_fits};
     ghost use Rattle.nt_lane.specs.Plans.{IsPlanned};
 
-    /// What a job of a processor that stands so comes to in the states of the held lanes.
-    pub(crate) fn plan(&self, script: &Script, job: &Job, stand: &StandView) -> Planned
+    /// Writes what a job of a processor that stands so comes to in the states of the held lanes.
+    pub(crate) fn plan(&self, script: &Script, job: &Job, stand: &StandView, planned: &mut Planned)
         requires script { (script.now ≡ N.script) × IsTrue (fits N.script) }
         requires job { IsTrue (job_fits N.script job.now) }
         requires stand { StandFits N.script stand.now }
-        ensures { IsPlanned (states_of N.script self.now) stand.now job.now result }
+        ensures { IsPlanned (states_of N.script self.now) stand.now job.now planned.new }
     {
         self.there();
         plan_job(
@@ -350,6 +350,7 @@ impl<'l, 's, N: Plan + Shared> Locked<'l, 's, N> {
             state_of::<N, Spin>(&self.spin_lock),
             job,
             stand,
+            planned,
         )
     }
 }

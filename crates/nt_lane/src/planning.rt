@@ -14,7 +14,7 @@ ghost use Rattle.nt_lane_record.specs.Held.{IsGroupThere, IsObjectThere, IsQueue
 ghost use Rattle.nt_lane.specs.Leaving.{Leaves, MakerRuns};
 ghost use Rattle.nt_lane.specs.Plans.{IsPlanned};
 ghost use Rattle.nt_states.specs.Given.{IsGiven, RunsOwn};
-ghost use Rattle.nt_states.specs.LaneLists.{AskFits};
+ghost use Rattle.nt_states.specs.LaneLists.{LaneFits};
 ghost use Rattle.nt_states.specs.Reads.{AreHeld};
 ghost use Rattle.nt_timer.specs.Laws.{IsSized};
 ghost use Rattle.nt_states.specs.ThreadFits.{RunsHere};
@@ -39,7 +39,8 @@ pub(crate) struct Plan {
     pub(crate) asks: Asks,
 }
 
-/// What came of a job in the states of held lanes.
+/// What came of a job in the states of held lanes. It is written in place, since a plan is
+/// expensive to move.
 #[derive(Drop)]
 pub(crate) enum Planned {
     /// This event is to be made.
@@ -48,6 +49,24 @@ pub(crate) enum Planned {
     Refused(ActRefusal),
     /// It takes these locks.
     Again(Needs),
+}
+
+impl Planned {
+    ghost use Rattle.nt_lane.specs.declared.planning.Planned.TheVariants as planned;
+
+    /// Leaves that it takes these locks.
+    fn set_again(&mut self, needs: Needs)
+        ensures { self.new ≡ planned.Again needs }
+    {
+        *self = Planned::Again(needs);
+    }
+
+    /// Leaves that there is no event, for this reason.
+    fn set_refused(&mut self, refusal: ActRefusal)
+        ensures { self.new ≡ planned.Refused refusal }
+    {
+        *self = Planned::Refused(refusal);
+    }
 }
 
 /// Pending APCs are of their objects' kinds, where a group is held; where none is, none is pending.
@@ -150,35 +169,42 @@ fn reads_due(held: &Held, what: &What) -> bool
     }
 }
 
-/// The event with what it asks for, where its lanes are held.
-fn plan_of(held: &Held, stand: &StandView, what: &What, lanes: Touched) -> Plan
-    requires given { IsGiven held.now.script (held_lanes held.now) stand.now what.now }
+/// Plans the event of a job, whose lanes are held, with what it asks for.
+fn plan_held(
+    held: &Held,
+    stand: &StandView,
+    job: &Job,
+    what: &What,
+    lanes: Touched,
+    planned: &mut Planned,
+)
+    requires event { IsEvent held.now stand.now job.now what.now }
     requires lanes { lanes ≡ what_lanes held.now.script stand.now what.now (held_lanes held.now) }
+    requires named { All (LaneFits held.now.script) lanes }
     requires held { AreHeld (IsHeld held.now) lanes }
     requires due { IsSome (due_of what.now 0) → IsHeld held.now TimersLane }
-    ensures event { result.event ≡ acted_event stand.now (held_lanes held.now) what.now }
-    ensures due { result.due ≡ due_of what.now (held_lanes held.now).timers.now }
-    ensures due_fits { IfSome result.due (λ due. due < 2 ^ 51) }
-    ensures lanes { result.lanes ≡ lanes }
-    ensures asks { result.asks
-        ≡ what_asks held.now.script stand.now what.now (held_lanes held.now) }
-    ensures asks_named { All (AskFits held.now.script) result.asks }
+    requires kinds { KindsFit held.now.script (held_lanes held.now) }
+    requires runs { MakerRuns held.now.script held.now.group stand.now what.now }
+    requires leaves { Leaves (held_lanes held.now).threads stand.now job.now }
+    ensures { IsPlanned held.now stand.now job.now planned.new }
 {
+    let _job = job;
+    held.there();
     let event = nt_states::event(held, stand, what);
     let due = nt_states::due(held, what);
     let mut asks = Asks::none();
     nt_states::event_asks(held, stand, what, &mut asks);
-    Plan {
+    *planned = Planned::Event(Plan {
         event,
         due,
         lanes,
         asks,
-    }
+    });
 }
 
-/// What becomes of an event that is decided: it is made where the lanes that are held are exactly
-/// those that its job reads and those that it touches, so that it is never made under a lock that
-/// it doesn't need.
+/// Writes what becomes of an event that is decided: it is made where the lanes that are held are
+/// exactly those that its job reads and those that it touches, so that it is never made under a
+/// lock that it doesn't need.
 fn plan_event(
     script: &Script,
     held: &Held,
@@ -186,33 +212,36 @@ fn plan_event(
     job: &Job,
     stand: &StandView,
     what: &What,
-) -> Planned
+    planned: &mut Planned,
+)
     requires script { script.now ≡ held.now.script }
     requires group { held.now.group ≡ option_map (λ g. g.now) group }
     requires there { IfSome group (λ g. IsGroupThere script.now g.now) }
     requires stand { StandFits script.now stand.now }
     requires kinds { KindsFit held.now.script (held_lanes held.now) }
     requires event { IsEvent held.now stand.now job.now what.now }
-    ensures { IsPlanned held.now stand.now job.now result }
+    ensures { IsPlanned held.now stand.now job.now planned.new }
 {
     held.there();
     let first = needs_of_job(script, job, stand);
     if !leaves(script, group, stand, job) || !maker_runs(script, group, stand, what) {
-        return Planned::Again(first);
+        planned.set_again(first);
+        return;
     }
     if !reads_due(held, what) || !reads_event(held, what) {
-        return Planned::Again(first);
+        planned.set_again(first);
+        return;
     }
     let lanes = nt_states::event_lanes(held, stand, what);
     let needs = first.with_all(lanes.as_slice());
     if held.needs() == needs && holds_all(held, lanes.as_slice()) {
-        Planned::Event(plan_of(held, stand, what, lanes))
+        plan_held(held, stand, job, what, lanes, planned);
     } else {
-        Planned::Again(needs)
+        planned.set_again(needs);
     }
 }
 
-/// What a job of a processor that stands so comes to in the states of held lanes.
+/// Writes what a job of a processor that stands so comes to in the states of held lanes.
 pub(crate) fn plan_job(
     script: &Script,
     object: Option<&Object>,
@@ -222,7 +251,8 @@ pub(crate) fn plan_job(
     spin_lock: Option<&Spin>,
     job: &Job,
     stand: &StandView,
-) -> Planned
+    planned: &mut Planned,
+)
     requires fits { IsTrue (fits script.now) }
     requires object { IfSome object (λ o. IsObjectThere script.now o.now) }
     requires queue { IfSome queue (λ q. IsQueueThere script.now q.now) }
@@ -239,15 +269,15 @@ pub(crate) fn plan_job(
       timers = option_map (λ t. t.now) timers.entry;
       spin_lock = option_map (λ x. x.now) spin_lock.entry;
     })
-        stand.now job.now result }
+        stand.now job.now planned.new }
 {
     kinds(script, group);
     match Held::new(script, object, queue, group, timers, spin_lock) {
         Some(held) => match decide(&held, job, stand) {
-            Decided::Event(what) => plan_event(script, &held, group, job, stand, &what),
-            Decided::Refused(refusal) => Planned::Refused(refusal),
-            Decided::Unknown => Planned::Again(needs_of_job(script, job, stand)),
+            Decided::Event(what) => plan_event(script, &held, group, job, stand, &what, planned),
+            Decided::Refused(refusal) => planned.set_refused(refusal),
+            Decided::Unknown => planned.set_again(needs_of_job(script, job, stand)),
         },
-        None => Planned::Again(needs_of_job(script, job, stand)),
+        None => planned.set_again(needs_of_job(script, job, stand)),
     }
 }

@@ -26,8 +26,8 @@ use nt_states::tell_own;
 
 /// What came of a try under locks.
 pub(crate) enum Tried {
-    /// The event was made.
-    Done(Acted),
+    /// The event was made, and is written.
+    Done,
     /// There is none to be made, or no memory.
     Refused(ActRefusal),
     /// It takes these locks.
@@ -59,7 +59,7 @@ fn draw_plan<N: nt_event::Plan + Shared>(
     n
 }
 
-/// Makes the event of a plan, whose lanes are held and have room.
+/// Makes the event of a plan, whose lanes are held and have room, and writes what was made.
 fn make<'s, N: nt_event::Plan + Shared>(
     locked: &mut Locked<'_, 's, N>,
     script: &Script,
@@ -68,7 +68,8 @@ fn make<'s, N: nt_event::Plan + Shared>(
     plan: &Plan,
     job: &Job,
     stand: &StandView,
-) -> Acted
+    acted: &mut Acted,
+)
     requires script { (script.now ≡ N.script) × IsTrue (fits N.script) }
     requires table { (table_of marks.now ≡ N.table) × (pass_table pass.old ≡ N.table) }
     requires marks { (cpus_of marks.now ≡ N.script.cpus) ×
@@ -81,7 +82,7 @@ fn make<'s, N: nt_event::Plan + Shared>(
     requires roomy { AreRoomy locked.old }
     ensures table { pass_table pass.new ≡ N.table }
     ensures done { IsDone N.script stand.now job.now (pass_view pass.old)
-        (pass_view pass.new) result }
+        (pass_view pass.new) acted.new }
 {
     let _job = job;
     locked.there();
@@ -97,18 +98,17 @@ fn make<'s, N: nt_event::Plan + Shared>(
         numbers: &numbers,
     };
     locked.note(marks, pass, &step);
-    Acted {
-        number,
-        event: plan.event,
-        due: plan.due,
-        told: Rises { value },
-    }
+    acted.number = number;
+    acted.event = plan.event;
+    acted.due = plan.due;
+    acted.told = Rises { value };
 }
 
 /// Makes the event of the job in the states of the lanes that are held, or says which others it
 /// takes.
 ///
 /// The event is decided under the locks, and made only where each lane that it touches is held.
+/// What was made is written in place.
 pub(crate) fn try_under<'s, N: nt_event::Plan + Shared>(
     locked: &mut Locked<'_, 's, N>,
     script: &Script,
@@ -116,6 +116,7 @@ pub(crate) fn try_under<'s, N: nt_event::Plan + Shared>(
     pass: &mut Pass,
     job: &Job,
     stand: &StandView,
+    acted: &mut Acted,
 ) -> Tried
     requires script { (script.now ≡ N.script) × IsTrue (fits N.script) }
     requires table { (table_of marks.now ≡ N.table) × (pass_table pass.old ≡ N.table) }
@@ -126,14 +127,17 @@ pub(crate) fn try_under<'s, N: nt_event::Plan + Shared>(
     requires stand { StandFits N.script stand.now }
     ensures table { pass_table pass.new ≡ N.table }
     ensures tried { IsTried N.script stand.now job.now (pass_view pass.old)
-        (pass_view pass.new) result }
+        (pass_view pass.new) acted.new result }
 {
     let roomy = locked.prepare(marks, pass);
     locked.there();
-    match locked.plan(script, job, stand) {
+    let mut planned = Planned::Again(Needs::none());
+    locked.plan(script, job, stand, &mut planned);
+    match &planned {
         Planned::Event(plan) => {
             if roomy {
-                Tried::Done(make::<N>(locked, script, marks, pass, &plan, job, stand))
+                make::<N>(locked, script, marks, pass, plan, job, stand, acted);
+                Tried::Done
             } else {
                 locked.compare(marks, pass);
                 Tried::Refused(ActRefusal::NoMemory)
@@ -141,8 +145,8 @@ pub(crate) fn try_under<'s, N: nt_event::Plan + Shared>(
         }
         Planned::Refused(refusal) => {
             locked.compare(marks, pass);
-            Tried::Refused(refusal)
+            Tried::Refused(*refusal)
         }
-        Planned::Again(needs) => Tried::Again(needs),
+        Planned::Again(needs) => Tried::Again(*needs),
     }
 }

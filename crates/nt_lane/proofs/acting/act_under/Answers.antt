@@ -15,7 +15,7 @@ try_under-requires-clause-room g c =
 pub returns-in-Done-clause-done : goal.returns-in-Done-clause-done
 returns-in-Done-clause-done g c =
     done_after g.N.Plan.script c.args.stand.now c.args.job.now (pass_view c.args.pass.now) (pass_view c.loop.pass) (pass_view c.try_under.new.pass)
-    c.in-Done.acted c.loop.invariant.1 c.in-Done.ensures.tried
+    c.try_under.new.acted c.loop.invariant.1 c.in-Done.ensures.tried
 
 pub returns-in-Refused-clause-refused : goal.returns-in-Refused-clause-refused
 returns-in-Refused-clause-refused g c =

@@ -11,7 +11,7 @@ invariant_of-self g c = record {
   all_lanes = c.args.self.now.all_lanes;
   seat = c.act_under.ensures.table;
   listed = ∥∥₁_map c.args.self.now.listed (refused_listed g.N.Plan.script c.args.stand.now c.args.job.now (pass_view c.args.self.now.pass)
-      (pass_view c.act_under.new.pass) _ c.in_err-acted.ensures.refused);
+      (pass_view c.act_under.new.pass) _ c.in_err-act_under.ensures.refused);
 }
 
 -- after an event
@@ -22,10 +22,10 @@ invariant_of-self-2 g c = record {
   all_lanes = c.args.self.now.all_lanes;
   seat = c.act_under.ensures.table;
   listed = ∥∥₁_map c.args.self.now.listed (done_listed g.N.Plan.script c.args.stand.now c.args.job.now (pass_view c.args.self.now.pass)
-      (pass_view c.act_under.new.pass) c.in_ok-acted.acted c.in_ok-acted.ensures.done);
+      (pass_view c.act_under.new.pass) c.act_under.new.acted c.in_ok-act_under.ensures.done);
 }
 
 pub returns-clause-event : goal.returns-clause-event
 returns-clause-event g c =
     act_done g.N.Plan.script c.args.stand.now c.args.job.now (pass_view c.args.self.now.pass) (pass_view c.act_under.new.pass) c.args.self.now.marks.now
-    c.in_ok-acted.acted c.args.seen.now c.raise_all.new.self c.requires.room c.in_ok-acted.ensures.done c.raise_all.ensures.values
+    c.act_under.new.acted c.args.seen.now c.raise_all.new.self c.requires.room c.in_ok-act_under.ensures.done c.raise_all.ensures.values
