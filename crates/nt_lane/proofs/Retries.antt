@@ -1,5 +1,5 @@
 -- A pass that only learned in a try may try again.
-use Rattle.std.proofs.Common.{ap, arith, refl, ◌∙◌}
+use Rattle.std.proofs.Common.{ap, arith, refl, subst, ◌∙◌}
 use Rattle.std.specs.Prelude.{List, length, map, ℕ, ◌*◌, ◌++◌, ◌∷◌, [], ◌≡◌, ◌≤◌}
 use Rattle.nt_event.specs.declared.events.Event.{Event}
 use Rattle.nt_event.specs.declared.jobs.Job.{Job}
@@ -8,6 +8,8 @@ use Rattle.nt_event.specs.declared.scripts.Script.{Script}
 use Rattle.nt_event.specs.Requests.{Ask}
 use Rattle.nt_event.specs.declared.acts.ActRefusal.{ActRefusal}
 use Rattle.nt_event.specs.declared.acts.Acted.{Acted}
+use Rattle.nt_event.specs.declared.acts.Made.{Made}
+use Rattle.nt_event.specs.Acts.{acted_of}
 use Rattle.nt_mark.specs.declared.marks.Marks.{Marks}
 use Rattle.nt_mark.specs.declared.view.Entry.{Entry}
 use Rattle.nt_mark.specs.declared.view.Mark.{Mark}
@@ -15,7 +17,7 @@ use Rattle.nt_mark.specs.declared.view.View.{View}
 use Rattle.nt_mark.specs.Names.{limit_of}
 use Rattle.nt_mark.specs.Views.{entry, step_word}
 use Rattle.nt_lane.specs.Marked.{mark_for}
-use Rattle.nt_lane.specs.Tries.{HasMade, IsDone, IsNotDone}
+use Rattle.nt_lane.specs.Tries.{HasMade, IsDone, IsMade, IsNotDone}
 use Rattle.nt_lane_record.specs.Passes.{Learns, grows_same, grows_through}
 use Rattle.nt_lane.specs.Views.{drawable_of}
 
@@ -67,6 +69,17 @@ done_after s st job u v w a l d = record {
   fits = d.fits;
   told = d.told;
 }
+
+-- an act that was made after the pass had only learned, with nothing more seen, was made since before it learned
+pub act_made_after : (s : Script) (st : Stand) (job : Job) (u v w : View) (before now after : List ℕ) (e : Event) (m : Made) → Learns u v → now ≡ before →
+    IsMade s st job v w now after e m → IsMade s st job u w before after e m
+act_made_after s st job u v w before now after e m l same h =
+    subst (λ (seen : List ℕ). IsMade s st job u w seen after e m) same (record {
+      told = h.told;
+      done = done_after s st job u v w (acted_of m e h.told) l h.done;
+      seen = h.seen;
+      interrupts = h.interrupts;
+    })
 
 -- an act that was refused after the pass had only learned was refused since before it learned
 pub not_done_after : (s : Script) (st : Stand) (job : Job) (u v w : View) (r : ActRefusal) → Learns u v → IsNotDone s st job v w r →

@@ -1,15 +1,18 @@
 -- What came of a try to make an event under the locks that are held.
-use Rattle.std.specs.Prelude.{All, List, [], map, ℕ, ◌++◌, ◌+◌, ◌<◌, ◌^◌, ◌∷◌, ◌≡◌, ◌≤◌}
+use Rattle.std.specs.Prelude.{All, List, [], false, map, max, ℕ, ◌++◌, ◌+◌, ◌<◌, ◌^◌, ◌∷◌, ◌≡◌, ◌≤◌}
 use Rattle.nt_event.specs.declared.events.Event.{Event}
 use Rattle.nt_event.specs.declared.jobs.Job.{Job}
 use Rattle.nt_event.specs.declared.jobs.Stand.{Stand}
 use Rattle.nt_event.specs.declared.scripts.Script.{Script}
 use Rattle.nt_event.specs.Lanes.{lane_number, what_lanes}
-use Rattle.nt_event.specs.Lists.{value_at}
+use Rattle.nt_event.specs.Lists.{table, value_at}
 use Rattle.nt_event.specs.Requests.{Ask, what_asks}
-use Rattle.nt_event.specs.Acts.{Found, IsActed, IsRefused}
+use Rattle.nt_event.specs.Acts.{Found, IsActed, IsRefused, acted_of}
 use Rattle.nt_event.specs.declared.acts.ActRefusal.{ActRefusal}
 use Rattle.nt_event.specs.declared.acts.Acted.{Acted}
+use Rattle.nt_event.specs.declared.acts.Made.{Made}
+use Rattle.nt_event.specs.declared.events.Rises.{Rises}
+use Rattle.nt_floor.specs.Seen.{SameInterrupts}
 use Rattle.nt_mark.specs.declared.view.View.{View}
 use Rattle.nt_mark.specs.Views.{entry, reach, request_word, step_word}
 use Rattle.nt_states.specs.LaneLists.{AskFits}
@@ -52,7 +55,20 @@ pub record IsNotDone (s : Script) (st : Stand) (job : Job) (v w : View) (r : Act
   pub cause : IsRefused s found st job r
   pub learns : Learns v w
 
-abbrev pub IsTried : Script → Stand → Job → View → View → Acted → Tried → Type 0
-IsTried s st job v w a Done = IsDone s st job v w a
-IsTried s st job v w a (Refused r) = IsNotDone s st job v w r
-IsTried s st job v w a (Again needs) = Learns v w
+-- the event was made and is written, and what was seen is raised to what the touched lanes told
+pub record IsMade (s : Script) (st : Stand) (job : Job) (v w : View) (before after : List ℕ) (e : Event)
+    (m : Made) : Type 0 where
+  pub told : Rises
+  pub done : IsDone s st job v w (acted_of m e told)
+  pub seen : after ≡ table 16 (λ c. max (value_at before c) (value_at told.value c))
+  pub interrupts : m.interrupts ≡ false → SameInterrupts before after
+
+-- nothing is written of an event, and nothing more was seen
+pub record IsUnwritten (before after : List ℕ) (e f : Event) : Type 0 where
+  pub event : f ≡ e
+  pub seen : after ≡ before
+
+abbrev pub IsTried : Script → Stand → Job → View → View → List ℕ → List ℕ → Event → Event → Tried → Type 0
+IsTried s st job v w before after e f (Done m) = IsMade s st job v w before after f m
+IsTried s st job v w before after e f (Refused r) = IsNotDone s st job v w r × IsUnwritten before after e f
+IsTried s st job v w before after e f (Again needs) = Learns v w × IsUnwritten before after e f

@@ -2,8 +2,8 @@
 //! touch.
 use crate::acting::act_under;
 use crate::seat::LaneSeat;
-use nt_event::{Event, Job, Plan, Rises};
-use nt_floor::{ActRefusal, Acted, Floor, Made, Seen};
+use nt_event::{Event, Job, Plan};
+use nt_floor::{ActRefusal, Floor, Made, Seen};
 use nt_frame::StandView;
 use nt_mark::Shared;
 use std::sync::Wait;
@@ -34,27 +34,17 @@ impl<N: Plan + Shared, R: Wait> Floor for LaneSeat<'_, '_, N, R> {
         seen: &mut Seen,
         event: &mut Event,
     ) -> Result<Made, ActRefusal> {
-        let mut acted = Acted {
-            number: 0,
-            event: *event,
-            due: None,
-            told: Rises { value: [0; 16] },
-        };
-        act_under(
+        let made = act_under(
             self.rt,
             self.lanes,
             self.marks,
             &mut self.pass,
             job,
             stand,
-            &mut acted,
+            seen,
+            event,
         )?;
-        self.last = acted.number;
-        *event = acted.event;
-        Ok(Made {
-            number: acted.number,
-            due: acted.due,
-            interrupts: seen.raise_all(&acted.told.value),
-        })
+        self.last = made.number;
+        Ok(made)
     }
 }

@@ -7,7 +7,7 @@ ghost use Rattle.nt_event.specs.Acts.{StandFits, job_fits};
 ghost use Rattle.nt_lane.specs.Locks.{AreKnownBy, AreRoomy, states_of};
 ghost use Rattle.nt_lane.specs.Plans.{IsPlan, IsPlanned};
 ghost use Rattle.nt_lane.specs.Steps.{IsStep};
-ghost use Rattle.nt_lane.specs.Tries.{HasMade, IsDone, IsTried};
+ghost use Rattle.nt_lane.specs.Tries.{HasMade, IsMade, IsTried};
 ghost use Rattle.nt_lane.specs.Views.{drawable_of};
 ghost use Rattle.nt_mark.specs.Names.{cpus_of, lanes_of, pass_table, pass_view, table_of};
 ghost use Rattle.nt_states.specs.LaneLists.{AskFits};
@@ -17,8 +17,8 @@ use crate::marking::mark_all;
 use crate::needs::Needs;
 use crate::noting::Step;
 use crate::planning::{Plan, Planned};
-use nt_event::{Job, Rises, Script};
-use nt_floor::{ActRefusal, Acted};
+use nt_event::{Event, Job, Script};
+use nt_floor::{ActRefusal, Made, Seen};
 use nt_frame::StandView;
 use nt_lane_record::{Numbers, touched_numbers};
 use nt_mark::{Marks, Pass, Shared};
@@ -27,7 +27,7 @@ use nt_states::tell_own;
 /// What came of a try under locks.
 pub(crate) enum Tried {
     /// The event was made, and is written.
-    Done,
+    Done(Made),
     /// There is none to be made, or no memory.
     Refused(ActRefusal),
     /// It takes these locks.
@@ -59,7 +59,8 @@ fn draw_plan<N: nt_event::Plan + Shared>(
     n
 }
 
-/// Makes the event of a plan, whose lanes are held and have room, and writes what was made.
+/// Makes the event of a plan, whose lanes are held and have room. It writes the event, and raises
+/// what the processor has seen to what the touched lanes tell.
 fn make<'s, N: nt_event::Plan + Shared>(
     locked: &mut Locked<'_, 's, N>,
     script: &Script,
@@ -68,8 +69,9 @@ fn make<'s, N: nt_event::Plan + Shared>(
     plan: &Plan,
     job: &Job,
     stand: &StandView,
-    acted: &mut Acted,
-)
+    seen: &mut Seen,
+    event: &mut Event,
+) -> Made
     requires script { (script.now ≡ N.script) × IsTrue (fits N.script) }
     requires table { (table_of marks.now ≡ N.table) × (pass_table pass.old ≡ N.table) }
     requires marks { (cpus_of marks.now ≡ N.script.cpus) ×
@@ -81,8 +83,8 @@ fn make<'s, N: nt_event::Plan + Shared>(
     requires known { AreKnownBy locked.old (pass_view pass.old) }
     requires roomy { AreRoomy locked.old }
     ensures table { pass_table pass.new ≡ N.table }
-    ensures done { IsDone N.script stand.now job.now (pass_view pass.old)
-        (pass_view pass.new) acted.new }
+    ensures done { IsMade N.script stand.now job.now (pass_view pass.old) (pass_view pass.new)
+        seen.old seen.new event.new result }
 {
     let _job = job;
     locked.there();
@@ -98,17 +100,19 @@ fn make<'s, N: nt_event::Plan + Shared>(
         numbers: &numbers,
     };
     locked.note(marks, pass, &step);
-    acted.number = number;
-    acted.event = plan.event;
-    acted.due = plan.due;
-    acted.told = Rises { value };
+    *event = plan.event;
+    Made {
+        number,
+        due: plan.due,
+        interrupts: seen.raise_all(&value),
+    }
 }
 
 /// Makes the event of the job in the states of the lanes that are held, or says which others it
 /// takes.
 ///
 /// The event is decided under the locks, and made only where each lane that it touches is held.
-/// What was made is written in place.
+/// Where none is made, nothing is written.
 pub(crate) fn try_under<'s, N: nt_event::Plan + Shared>(
     locked: &mut Locked<'_, 's, N>,
     script: &Script,
@@ -116,7 +120,8 @@ pub(crate) fn try_under<'s, N: nt_event::Plan + Shared>(
     pass: &mut Pass,
     job: &Job,
     stand: &StandView,
-    acted: &mut Acted,
+    seen: &mut Seen,
+    event: &mut Event,
 ) -> Tried
     requires script { (script.now ≡ N.script) × IsTrue (fits N.script) }
     requires table { (table_of marks.now ≡ N.table) × (pass_table pass.old ≡ N.table) }
@@ -127,7 +132,7 @@ pub(crate) fn try_under<'s, N: nt_event::Plan + Shared>(
     requires stand { StandFits N.script stand.now }
     ensures table { pass_table pass.new ≡ N.table }
     ensures tried { IsTried N.script stand.now job.now (pass_view pass.old)
-        (pass_view pass.new) acted.new result }
+        (pass_view pass.new) seen.old seen.new event.old event.new result }
 {
     let roomy = locked.prepare(marks, pass);
     locked.there();
@@ -136,8 +141,7 @@ pub(crate) fn try_under<'s, N: nt_event::Plan + Shared>(
     match &planned {
         Planned::Event(plan) => {
             if roomy {
-                make::<N>(locked, script, marks, pass, plan, job, stand, acted);
-                Tried::Done
+                Tried::Done(make::<N>(locked, script, marks, pass, plan, job, stand, seen, event))
             } else {
                 locked.compare(marks, pass);
                 Tried::Refused(ActRefusal::NoMemory)

@@ -45,12 +45,17 @@ returns-clause-done g c =
     let n = c.draw_plan-number.result in
     let told = rw c.cpu.ensures at c.told-value.ensures in
     let own = rw c.cpu-2.ensures at c.tell_own.ensures in
-    is_done g.N.Plan.script c.args.locked.now c.args.stand.now c.args.job.now c.args.plan.now c.draw_plan-number.result c.touched_numbers-numbers.result
-    c.told-value.result c.tell_own.new.values (pass_view c.args.pass.now) (pass_view c.draw_plan-number.new.pass) (pass_view c.note.new.pass) c.there.ensures
-    c.requires.known c.requires.planned
-    (c.touched_numbers-numbers.ensures.numbers ∙ (λ i. map (lane_number (c.requires.script.0 i)) c.args.plan.now.lanes))
-    (omega (arith, c.draw_plan-number.ensures.step.below)) c.draw_plan-number.ensures.made c.note.ensures.learns c.note.ensures.left
-    (told ∙ ap (λ (xs : List Lane). table 16 (λ k. told_over (told_in h) xs c.args.stand.now.cpu k)) c.as_slice.ensures)
-    (own
-    ∙ ap (λ (xs : List Ask). table 16 (λ k. if list_any (is_ask c.args.stand.now.cpu k) xs then n + 1 else value_at c.told-value.result k))
-    c.as_slice-2.ensures)
+    record {
+      told = record { value = c.tell_own.new.values };
+      done = is_done g.N.Plan.script c.args.locked.now c.args.stand.now c.args.job.now c.args.plan.now c.draw_plan-number.result
+          c.touched_numbers-numbers.result c.told-value.result c.tell_own.new.values (pass_view c.args.pass.now) (pass_view c.draw_plan-number.new.pass)
+          (pass_view c.note.new.pass) c.there.ensures c.requires.known c.requires.planned
+          (c.touched_numbers-numbers.ensures.numbers ∙ (λ i. map (lane_number (c.requires.script.0 i)) c.args.plan.now.lanes))
+          (omega (arith, c.draw_plan-number.ensures.step.below)) c.draw_plan-number.ensures.made c.note.ensures.learns c.note.ensures.left
+          (told ∙ ap (λ (xs : List Lane). table 16 (λ k. told_over (told_in h) xs c.args.stand.now.cpu k)) c.as_slice.ensures)
+          (own
+          ∙ ap (λ (xs : List Ask). table 16 (λ k. if list_any (is_ask c.args.stand.now.cpu k) xs then n + 1 else value_at c.told-value.result k))
+          c.as_slice-2.ensures);
+      seen = c.raise_all.ensures.values;
+      interrupts = c.raise_all.ensures.interrupts;
+    }

@@ -1,6 +1,6 @@
 use Rattle.std.proofs.Math.Logic.{∥∥₁_map}
 use Rattle.nt_mark.specs.Names.{pass_view}
-use Rattle.nt_lane.proofs.Acts.{act_done, done_listed, refused_listed}
+use Rattle.nt_lane.proofs.Acts.{act_made, made_listed, refused_listed}
 use Rattle.nt_lane.proofs.floor.LaneSeatFloor.act.Goals as goal
 
 -- after a refusal
@@ -11,7 +11,7 @@ invariant_of-self g c = record {
   all_lanes = c.args.self.now.all_lanes;
   seat = c.act_under.ensures.table;
   listed = ∥∥₁_map c.args.self.now.listed (refused_listed g.N.Plan.script c.args.stand.now c.args.job.now (pass_view c.args.self.now.pass)
-      (pass_view c.act_under.new.pass) _ c.in_err-act_under.ensures.refused);
+      (pass_view c.act_under.new.pass) _ c.in_err-made.ensures.refused);
 }
 
 -- after an event
@@ -21,11 +21,11 @@ invariant_of-self-2 g c = record {
   cpus = c.args.self.now.cpus;
   all_lanes = c.args.self.now.all_lanes;
   seat = c.act_under.ensures.table;
-  listed = ∥∥₁_map c.args.self.now.listed (done_listed g.N.Plan.script c.args.stand.now c.args.job.now (pass_view c.args.self.now.pass)
-      (pass_view c.act_under.new.pass) c.act_under.new.acted c.in_ok-act_under.ensures.done);
+  listed = ∥∥₁_map c.args.self.now.listed (made_listed g.N.Plan.script c.args.stand.now c.args.job.now (pass_view c.args.self.now.pass)
+      (pass_view c.act_under.new.pass) c.args.seen.now c.act_under.new.seen c.act_under.new.event c.in_ok-made.made c.in_ok-made.ensures.done);
 }
 
 pub returns-clause-event : goal.returns-clause-event
 returns-clause-event g c =
-    act_done g.N.Plan.script c.args.stand.now c.args.job.now (pass_view c.args.self.now.pass) (pass_view c.act_under.new.pass) c.args.self.now.marks.now
-    c.act_under.new.acted c.args.seen.now c.raise_all.new.self c.requires.room c.in_ok-act_under.ensures.done c.raise_all.ensures.values
+    act_made g.N.Plan.script c.args.stand.now c.args.job.now (pass_view c.args.self.now.pass) (pass_view c.act_under.new.pass) c.args.self.now.marks.now
+    c.args.seen.now c.act_under.new.seen c.act_under.new.event c.in_ok-made.made c.requires.room c.in_ok-made.ensures.done
