@@ -6,7 +6,7 @@ use Rattle.nt_friendly.specs.Text.{strict_text}
 use Rattle.nt_lab.specs.Replies.{memory_line}
 use Rattle.nt_lab_words.specs.declared.words.TheConstants.{USUAL}
 use Rattle.nt_lab_words.specs.declared.words.ThingKind.{ThingKind}
-use Rattle.nt_lab_words.specs.declared.words.ThingKind.TheVariants.{Apc, Dpc, Interrupt, Thread}
+use Rattle.nt_lab_words.specs.declared.words.ThingKind.TheVariants.{Apc, Dpc, Interrupt, Thread, Timer}
 use Rattle.nt_lab_words.specs.Words.{kind_word}
 use Rattle.nt_shown.specs.declared.showing.ShownRun.{ShownRun}
 use Rattle.nt_shown.specs.Shown.{IsShown}
@@ -22,6 +22,7 @@ abbrev pub thing_named : Input → ThingKind → Named → Option Thing
 thing_named input Dpc n = read_words input.names (kind_word Dpc) n.thing.now
 thing_named input Apc n = read_words input.names (kind_word Apc) n.thing.now
 thing_named input Thread n = read_words input.names (kind_word Thread) n.thing.now
+thing_named input Timer n = read_words input.names (kind_word Timer) n.thing.now
 thing_named input Interrupt n = read_interrupt_words input.script.cpus n.thing.now n.level.now
 
 -- the words that name a thing of this kind
@@ -29,6 +30,7 @@ abbrev pub name_text : ThingKind → Named → List ℕ
 name_text Dpc n = n.thing.now
 name_text Apc n = n.thing.now
 name_text Thread n = n.thing.now
+name_text Timer n = n.thing.now
 name_text Interrupt n = n.thing.now ++ (32 ∷ n.level.now)
 
 -- the text on a thing that the script does not have

@@ -25,7 +25,7 @@ fn thing_named(input: &Input, kind: ThingKind, named: Named<'_>) -> Option<Thing
     ensures { result ≡ thing_named input.now kind named.entry }
 {
     match kind {
-        ThingKind::Dpc | ThingKind::Apc | ThingKind::Thread => {
+        ThingKind::Dpc | ThingKind::Apc | ThingKind::Thread | ThingKind::Timer => {
             read_thing(input, kind.word().as_bytes(), named.thing.as_bytes())
         }
         ThingKind::Interrupt => {
@@ -40,7 +40,7 @@ fn put_name(out: &mut Vec<u8>, kind: ThingKind, named: Named<'_>) -> Result<(), 
 {
     out.extend_from_slice(named.thing.as_bytes())?;
     match kind {
-        ThingKind::Dpc | ThingKind::Apc | ThingKind::Thread => Ok(()),
+        ThingKind::Dpc | ThingKind::Apc | ThingKind::Thread | ThingKind::Timer => Ok(()),
         ThingKind::Interrupt => {
             out.extend_from_slice(b" ")?;
             out.extend_from_slice(named.level.as_bytes())

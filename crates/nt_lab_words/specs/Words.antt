@@ -17,7 +17,7 @@ use Rattle.nt_lab_words.specs.declared.words.Order.TheVariants as order
 use Rattle.nt_lab_words.specs.declared.words.Task.{Task}
 use Rattle.nt_lab_words.specs.declared.words.Task.TheVariants.{Do, Help, Version}
 use Rattle.nt_lab_words.specs.declared.words.ThingKind.{ThingKind}
-use Rattle.nt_lab_words.specs.declared.words.ThingKind.TheVariants.{Apc, Dpc, Interrupt, Thread}
+use Rattle.nt_lab_words.specs.declared.words.ThingKind.TheVariants.{Apc, Dpc, Interrupt, Thread, Timer}
 use Rattle.nt_lab_words.specs.declared.words.Work.{Work}
 use Rattle.nt_lab_words.specs.declared.words.Work.TheVariants.{Ask, Draw, Left, Run, Tidy, Why}
 use Rattle.nt_lab_words.specs.Options.{options_of}
@@ -49,6 +49,7 @@ abbrev pub kind_word : ThingKind → List ℕ
 kind_word Dpc = codes "dpc"
 kind_word Apc = codes "apc"
 kind_word Thread = codes "thread"
+kind_word Timer = codes "timer"
 kind_word Interrupt = codes "int"
 
 -- the kind of a thing by its word
@@ -56,13 +57,15 @@ abbrev pub kind_of : List ℕ → Option ThingKind
 kind_of word = if bytes_eq word (kind_word Dpc) then Some Dpc else
     (if bytes_eq word (kind_word Apc) then Some Apc else
     (if bytes_eq word (kind_word Thread) then Some Thread else
-    (if bytes_eq word (kind_word Interrupt) then Some Interrupt else None)))
+    (if bytes_eq word (kind_word Timer) then Some Timer else
+    (if bytes_eq word (kind_word Interrupt) then Some Interrupt else None))))
 
 -- two words name an interrupt, its processor and its level; one word names another thing
 abbrev pub has_two_words : ThingKind → Bool
 has_two_words Dpc = false
 has_two_words Apc = false
 has_two_words Thread = false
+has_two_words Timer = false
 has_two_words Interrupt = true
 
 -- a level of an interrupt, 0 to 15

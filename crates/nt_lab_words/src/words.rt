@@ -29,7 +29,7 @@ usage: ntlab FORM [FILE]
                           a picture of a run: SVG, or text for a terminal
   --help, --version
 
-THING: dpc NAME, apc NAME, thread NAME or int CPU LEVEL
+THING: dpc NAME, apc NAME, thread NAME, timer NAME or int CPU LEVEL
 Without FILE the text is read from standard input.
 ";
 
@@ -72,6 +72,8 @@ pub enum ThingKind {
     Apc,
     /// A thread.
     Thread,
+    /// A timer.
+    Timer,
     /// An interrupt, which is named by a processor and a level.
     Interrupt,
 }
@@ -85,6 +87,7 @@ impl ThingKind {
             ThingKind::Dpc => "dpc",
             ThingKind::Apc => "apc",
             ThingKind::Thread => "thread",
+            ThingKind::Timer => "timer",
             ThingKind::Interrupt => "int",
         }
     }
@@ -199,6 +202,8 @@ fn kind_of(word: &[u8]) -> Option<ThingKind>
         Some(ThingKind::Apc)
     } else if is_word(word, ThingKind::Thread.word().as_bytes()) {
         Some(ThingKind::Thread)
+    } else if is_word(word, ThingKind::Timer.word().as_bytes()) {
+        Some(ThingKind::Timer)
     } else if is_word(word, ThingKind::Interrupt.word().as_bytes()) {
         Some(ThingKind::Interrupt)
     } else {
@@ -212,7 +217,7 @@ fn has_two_words(kind: ThingKind) -> bool
 {
     match kind {
         ThingKind::Interrupt => true,
-        ThingKind::Dpc | ThingKind::Apc | ThingKind::Thread => false,
+        ThingKind::Dpc | ThingKind::Apc | ThingKind::Thread | ThingKind::Timer => false,
     }
 }
 

@@ -196,8 +196,9 @@ fn timer_after(
     }
 }
 
-/// What the timer is set to behind these events.
-pub(crate) fn setting_of(events: &Briefs, timer: TimerNo) -> Option<Setting>
+/// When the timer is due after these events, at most 160,000, where it is set then: the time at
+/// which it is due, the event that set it, and its period.
+pub fn setting_of(events: &Briefs, timer: TimerNo) -> Option<Setting>
     requires { length (lent events.now) ≤ EVENTS }
     ensures { result ≡ timers.timer_setting timer (past_of events.now) }
 {

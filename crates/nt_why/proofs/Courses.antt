@@ -20,7 +20,7 @@ use Rattle.nt_why.specs.declared.sought.Sought.{Sought}
 use Rattle.nt_why.specs.declared.things.Thing.{Thing}
 use Rattle.nt_why.specs.Courses.{AreWholeOf, IsOn, IsTrueOf, events_on, past_on}
 use Rattle.nt_why.specs.Past.{past_at}
-use Rattle.nt_why.specs.Sought.{begun_by, first_from, is_sought}
+use Rattle.nt_why.specs.Sought.{begun_by, first_from, is_sought, last_in}
 use Rattle.nt_why.specs.Things.{AreWhole, SaysOf}
 use Rattle.nt_why.proofs.Walks.{past_more, past_number}
 
@@ -40,6 +40,13 @@ pub first_more : (x : Sought) (from : ℕ) (events : List Event) (n : ℕ) (e : 
 first_more x from events n e h =
     ap (first_from x from) (past_more events n e h)
     ∙ ap (λ (k : ℕ). option_or (first_from x from (past_at n events)) (if nat_le from k && is_sought x e then Some k else None)) (past_number events n e h)
+
+-- the last event that is sought, after one event more
+pub last_in_more : (x : Sought) (events : List Event) (n : ℕ) (e : Event) → slice_get events n ≡ Some e →
+    last_in x (past_at (n + 1) events) ≡ (if is_sought x e then Some n else last_in x (past_at n events))
+last_in_more x events n e h =
+    ap (last_in x) (past_more events n e h)
+    ∙ ap (λ (k : ℕ). if is_sought x e then Some k else last_in x (past_at n events)) (past_number events n e h)
 
 -- what became of the thing in the whole history
 pub begun_all : (x : Sought) (from m : ℕ) (events : List Event) (first : Option ℕ) (f : Fate) → m ≡ length events →

@@ -3,3 +3,4 @@ pub mod Told
 pub mod Courses
 pub mod InterruptLines
 pub mod ThreadLines
+pub mod TimerLines

@@ -17,6 +17,8 @@ use Rattle.nt_event.specs.Requests.{asked, begins_class}
 use Rattle.nt_event.specs.Step.{is_cut, step}
 use Rattle.nt_why.specs.Past.{past_at}
 use Rattle.nt_why.specs.declared.reasons.Reason.{Reason}
+use Rattle.nt_why.specs.declared.reasons.Reason.TheVariants.{ExpiresFirst, IsDue, IsSet, NoSweep, NotDue, NotSet}
+use Rattle.nt_why.specs.declared.reasons.Reason.TheVariants.{OwesSweep}
 use Rattle.nt_why.specs.declared.reasons.Reason.TheVariants.{AskedNothing, Behind, Cut, Ended, First, InRegions}
 use Rattle.nt_why.specs.declared.reasons.Reason.TheVariants.{NeverInserted, Next, NoNext, NotAsked, NotRunning, Noticed}
 use Rattle.nt_why.specs.declared.reasons.Reason.TheVariants.{Runs, Stands, Then, TooHigh, Unnoticed, Waits}
@@ -68,6 +70,13 @@ SaysInterrupt s limit events end p l (TakenFirst q u) = ⊥
 SaysInterrupt s limit events end p l (OnOwn st) = ⊥
 SaysInterrupt s limit events end p l (MustFirst q) = ⊥
 SaysInterrupt s limit events end p l (NotTaken q k) = ⊥
+SaysInterrupt s limit events end p l (NotSet u n) = ⊥
+SaysInterrupt s limit events end p l (IsSet u x) = ⊥
+SaysInterrupt s limit events end p l (IsDue due now) = ⊥
+SaysInterrupt s limit events end p l (NotDue due now) = ⊥
+SaysInterrupt s limit events end p l (ExpiresFirst key n) = ⊥
+SaysInterrupt s limit events end p l (OwesSweep q) = ⊥
+SaysInterrupt s limit events end p l NoSweep = ⊥
 
 -- the event begins the interrupt of this level
 abbrev pub begins : ℕ → What → Bool

@@ -7,6 +7,8 @@ pub mod Moments
 pub mod Sought
 pub mod Interrupts
 pub mod Threads
+pub mod Timers
 pub mod Things
 pub mod Courses
+pub mod Expiries
 pub mod Words

@@ -46,6 +46,8 @@ use Rattle.nt_why.specs.declared.reasons.Reason.TheVariants.{AskedNothing, Behin
 use Rattle.nt_why.specs.declared.reasons.Reason.TheVariants.{NeverInserted, Next, NoNext, NotAsked, NotRunning, Noticed}
 use Rattle.nt_why.specs.declared.reasons.Reason.TheVariants.{Runs, Stands, Then, TooHigh, Unnoticed, Waits}
 use Rattle.nt_why.specs.declared.reasons.Reason.TheVariants.{MustFirst, NotTaken, OnOwn, Ready as IsReady, TakenFirst}
+use Rattle.nt_why.specs.declared.reasons.Reason.TheVariants.{ExpiresFirst, IsDue, IsSet, NoSweep, NotDue, NotSet}
+use Rattle.nt_why.specs.declared.reasons.Reason.TheVariants.{OwesSweep}
 use Rattle.nt_why.specs.declared.reasons.Request.{Request}
 use Rattle.nt_why.specs.declared.reasons.Sort.{Sort}
 use Rattle.nt_why.specs.declared.reasons.Sort.TheVariants as sort
@@ -72,6 +74,9 @@ holds_back (NoNext p k) = true
 holds_back (OnOwn st) = true
 holds_back (MustFirst p) = true
 holds_back (NotTaken p k) = true
+holds_back (NotDue due now) = true
+holds_back (ExpiresFirst key n) = true
+holds_back NoSweep = true
 holds_back NeverInserted = false
 holds_back (Ended n f) = false
 holds_back (Waits i) = false
@@ -83,6 +88,10 @@ holds_back (AskedNothing r n) = false
 holds_back (Then f) = false
 holds_back (IsReady a) = false
 holds_back (TakenFirst p t) = false
+holds_back (NotSet t n) = false
+holds_back (IsSet t x) = false
+holds_back (IsDue due now) = false
+holds_back (OwesSweep p) = false
 
 -- ---- the tests
 
@@ -236,6 +245,13 @@ Says s limit events end x (TakenFirst q u) = ⊥
 Says s limit events end x (OnOwn st) = ⊥
 Says s limit events end x (MustFirst q) = ⊥
 Says s limit events end x (NotTaken q k) = ⊥
+Says s limit events end x (NotSet u k) = ⊥
+Says s limit events end x (IsSet u y) = ⊥
+Says s limit events end x (IsDue due now) = ⊥
+Says s limit events end x (NotDue due now) = ⊥
+Says s limit events end x (ExpiresFirst key k) = ⊥
+Says s limit events end x (OwesSweep q) = ⊥
+Says s limit events end x NoSweep = ⊥
 
 -- ---- complete
 

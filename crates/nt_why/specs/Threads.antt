@@ -20,6 +20,8 @@ use Rattle.nt_event.specs.Threads.{is_ready}
 use Rattle.nt_why.specs.Past.{past_at}
 use Rattle.nt_why.specs.declared.reasons.Away.{Away}
 use Rattle.nt_why.specs.declared.reasons.Reason.{Reason}
+use Rattle.nt_why.specs.declared.reasons.Reason.TheVariants.{ExpiresFirst, IsDue, IsSet, NoSweep, NotDue, NotSet}
+use Rattle.nt_why.specs.declared.reasons.Reason.TheVariants.{OwesSweep}
 use Rattle.nt_why.specs.declared.reasons.Reason.TheVariants.{AskedNothing, Behind, Cut, Ended, First, InRegions}
 use Rattle.nt_why.specs.declared.reasons.Reason.TheVariants.{MustFirst, NeverInserted, Next, NoNext, NotAsked}
 use Rattle.nt_why.specs.declared.reasons.Reason.TheVariants.{NotRunning, NotTaken, Noticed, OnOwn, Ready, Runs}
@@ -72,6 +74,13 @@ SaysThread s limit events end t (First q) = ⊥
 SaysThread s limit events end t (Behind q o n) = ⊥
 SaysThread s limit events end t (InRegions u r) = ⊥
 SaysThread s limit events end t (AskedNothing r n) = ⊥
+SaysThread s limit events end t (NotSet u n) = ⊥
+SaysThread s limit events end t (IsSet u x) = ⊥
+SaysThread s limit events end t (IsDue due now) = ⊥
+SaysThread s limit events end t (NotDue due now) = ⊥
+SaysThread s limit events end t (ExpiresFirst key n) = ⊥
+SaysThread s limit events end t (OwesSweep q) = ⊥
+SaysThread s limit events end t NoSweep = ⊥
 
 -- why a turn is refused
 abbrev pub refusal_of : Result Event ScheduleKind → Option ScheduleKind

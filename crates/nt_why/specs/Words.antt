@@ -5,8 +5,9 @@ use Rattle.nt_event.specs.declared.numbers.ApcNo.{ApcNo}
 use Rattle.nt_event.specs.declared.numbers.CpuNo.{CpuNo}
 use Rattle.nt_event.specs.declared.numbers.DpcNo.{DpcNo}
 use Rattle.nt_event.specs.declared.numbers.ThreadNo.{ThreadNo}
+use Rattle.nt_event.specs.declared.numbers.TimerNo.{TimerNo}
 use Rattle.nt_text.specs.declared.kind.ScriptKind.{ScriptKind}
-use Rattle.nt_line.specs.Fields.{read_apc, read_cpu, read_dpc, read_isr_level, read_thread}
+use Rattle.nt_line.specs.Fields.{read_apc, read_cpu, read_dpc, read_isr_level, read_thread, read_timer}
 use Rattle.nt_line.specs.NameLists.{NameLists}
 use Rattle.nt_why.specs.declared.fates.Object.TheVariants.{Apc, Dpc}
 use Rattle.nt_why.specs.declared.things.Thing.{Thing}
@@ -20,16 +21,21 @@ abbrev pub as_apc : Result ApcNo ScriptKind → Option Thing
 as_apc (Ok a) = Some (thing.Object (Apc a))
 as_apc (Err k) = None
 
+abbrev pub as_timer : Result TimerNo ScriptKind → Option Thing
+as_timer (Ok t) = Some (thing.Timer t)
+as_timer (Err k) = None
+
 abbrev pub as_thread : Result ThreadNo ScriptKind → Option Thing
 as_thread (Ok t) = Some (thing.Thread t)
 as_thread (Err k) = None
 
--- the thing that two words name among these names: `dpc`, `apc` or `thread`, and the name of such a thing
+-- the thing that two words name among these names: `dpc`, `apc`, `thread` or `timer`, and the name of such a thing
 abbrev pub read_words : NameLists → List ℕ → List ℕ → Option Thing
 read_words names kind name =
     if bytes_eq kind (codes "dpc") then as_dpc (read_dpc names name)
     else (if bytes_eq kind (codes "apc") then as_apc (read_apc names name)
-    else (if bytes_eq kind (codes "thread") then as_thread (read_thread names name) else None))
+    else (if bytes_eq kind (codes "thread") then as_thread (read_thread names name)
+    else (if bytes_eq kind (codes "timer") then as_timer (read_timer names name) else None)))
 
 -- the word of a processor, without a `p` before its number
 abbrev pub bare : List ℕ → List ℕ

@@ -9,6 +9,7 @@ ghost use Rattle.nt_why.specs.Moments.{IsAsked, events_of};
 ghost use Rattle.nt_why.specs.Says.{AreComplete, Says};
 ghost use Rattle.nt_why.specs.Things.{AreWhole, SaysOf};
 ghost use Rattle.nt_why.specs.Threads.{IsWholeThread, SaysThread};
+ghost use Rattle.nt_why.specs.Timers.{IsWholeTimer, SaysTimer};
 
 use crate::fates::Object;
 use crate::interrupts::explain_interrupt;
@@ -17,8 +18,9 @@ use crate::question::{Course, Question};
 use crate::reasons::Reason;
 use crate::things::Thing;
 use crate::threads::explain_thread;
+use crate::timers::explain_timer;
 use nt_event::limits::{EVENTS, TURNS};
-use nt_event::{CpuNo, Level, Script, ThreadNo};
+use nt_event::{CpuNo, Level, Script, ThreadNo, TimerNo};
 use nt_history::History;
 use std::alloc::{AllocError, Global};
 
@@ -149,6 +151,31 @@ fn why_thread(
     Ok(reasons)
 }
 
+/// Why the timer has not expired.
+fn why_timer(
+    alloc: Global,
+    script: &Script,
+    history: &History,
+    after: u32,
+    t: TimerNo,
+) -> Result<Vec<Reason>, AllocError>
+    requires script { IsTrue (fits script.now) }
+    requires turns { (1 ≤ history.now.turns) × (history.now.turns ≤ TURNS) }
+    requires all { script.now.cpus * history.now.turns ≤ EVENTS }
+    requires run { IsRun script.now history.now.turns (reverse history.now.events) }
+    ensures told { IfOk result (λ rs. All
+        (SaysTimer script.now history.now.turns history.now.events
+        (min after (length history.now.events)) t) rs.items) }
+    ensures whole { IfOk result (λ rs.
+        IsWholeTimer script.now history.now.turns history.now.events
+        (min after (length history.now.events)) t rs.items) }
+{
+    let course = course_of(script, history, after);
+    let mut reasons = Vec::new(alloc);
+    explain_timer(alloc, &course, t, &mut reasons)?;
+    Ok(reasons)
+}
+
 /// Why the thing has not run after the first `after` events of the history, or after all of them
 /// where it has fewer. An error is want of memory.
 ///
@@ -164,6 +191,9 @@ fn why_thread(
 ///
 /// Where a thread runs, the first reason says so. Else some reason says what holds it back, exactly
 /// where the turn that takes it up is refused.
+///
+/// Where a timer isn't set, the first reason says so. Else some reason says what holds it back,
+/// exactly where no processor's next event expires it.
 pub fn why(
     alloc: Global,
     script: &Script,
@@ -186,5 +216,6 @@ pub fn why(
         Thing::Object(object) => why_object(alloc, script, history, after, object),
         Thing::Interrupt(p, level) => why_interrupt(alloc, script, history, after, p, level),
         Thing::Thread(t) => why_thread(alloc, script, history, after, t),
+        Thing::Timer(t) => why_timer(alloc, script, history, after, t),
     }
 }

@@ -15,6 +15,8 @@ mod sought;
 mod standing;
 mod things;
 mod threads;
+mod timers;
+mod times;
 mod watch;
 mod words;
 

@@ -8,7 +8,7 @@ use crate::reasons::{Away, Does, Pending, Reason, Request, Sort, Stood, Top};
 use crate::things::Thing;
 use nt_event::{
     ApcKind, ApcNo, Begun, Body, Command, CpuNo, DpcNo, Level, LockNo, Mode, Regions, ScheduleKind,
-    ThreadNo, TimerKey, TimerNo, What,
+    Setting, ThreadNo, TimerKey, TimerNo, What,
 };
 use nt_line::fields;
 use nt_script::{Input, put_command};
@@ -113,6 +113,7 @@ fn put_thing(out: &mut Text, input: &Input, thing: &Thing) -> Result<(), AllocEr
             put_cpu(out, *p)
         }
         Thing::Thread(thread) => put_thread(out, input, *thread),
+        Thing::Timer(timer) => put_timer(out, input, *timer),
     }
 }
 
@@ -358,10 +359,10 @@ fn put_begun(out: &mut Text, input: &Input, begun: &Begun) -> Result<(), AllocEr
     }
 }
 
+/// Adds the timer, or the delay of a thread.
 fn put_key(out: &mut Text, input: &Input, key: &TimerKey) -> Result<(), AllocError>
     requires { IsSound input.now }
 {
-    put(out, b"expire ")?;
     match key {
         TimerKey::Timer(timer) => put_timer(out, input, *timer),
         TimerKey::Delay(thread) => {
@@ -415,7 +416,10 @@ fn put_what(out: &mut Text, input: &Input, what: &What) -> Result<(), AllocError
     match what {
         What::Call { frame, command, .. } => put_call(out, input, *frame, command),
         What::Begin { begun, .. } => put_begun(out, input, begun),
-        What::Expire { key, .. } => put_key(out, input, key),
+        What::Expire { key, .. } => {
+            put(out, b"expire ")?;
+            put_key(out, input, key)
+        }
         What::Look { .. }
         | What::Normal { .. }
         | What::End { .. }
@@ -430,10 +434,21 @@ fn put_what(out: &mut Text, input: &Input, what: &What) -> Result<(), AllocError
     }
 }
 
+/// Why a turn of a processor is refused.
+fn cause_words(kind: ScheduleKind) -> &'static [u8] {
+    match kind {
+        ScheduleKind::NoSuchCpu => b"the script has no such processor",
+        ScheduleKind::NothingToDo => b"it has nothing to do, or is cut",
+        ScheduleKind::BadLook => b"nothing is to be noticed",
+        ScheduleKind::BadChoice => b"the thread isn't ready, or other work comes first",
+        ScheduleKind::Unfinished => b"there is more to do",
+    }
+}
+
 fn put_no_next(out: &mut Text, p: CpuNo, kind: ScheduleKind) -> Result<(), AllocError> {
     put_cpu(out, p)?;
     put(out, b" has no next event: ")?;
-    put(out, kind.name().as_bytes())
+    put(out, cause_words(kind))
 }
 
 /// Adds that the object is the first where it waits.
@@ -441,17 +456,106 @@ fn put_first(out: &mut Text, thing: &Thing) -> Result<(), AllocError> {
     match thing {
         Thing::Object(Object::Dpc(_)) => put(out, b"it is the first of its part"),
         Thing::Object(Object::Apc(_)) => put(out, b"it is the first APC of its kind there"),
-        Thing::Interrupt(_, _) | Thing::Thread(_) => put(out, b"it is the first"),
+        Thing::Interrupt(_, _) | Thing::Thread(_) | Thing::Timer(_) => put(out, b"it is the first"),
     }
 }
 
-/// Adds which event begins the thing, or takes up the thread.
+/// Adds at which event it happens, or that it doesn't.
+fn put_then_at(out: &mut Text, done: &[u8], not: &[u8], fate: Fate) -> Result<(), AllocError> {
+    match fate {
+        Fate::Begun(n) => put_at(out, done, n),
+        Fate::Removed(_) | Fate::Flushed(_) | Fate::Waits => put(out, not),
+    }
+}
+
+/// Adds which event begins the thing, takes up the thread or expires the timer.
 fn put_then(out: &mut Text, thing: &Thing, fate: Fate) -> Result<(), AllocError> {
     put(out, b"then: ")?;
-    match (thing, fate) {
-        (Thing::Thread(_), Fate::Begun(n)) => put_at(out, b"taken up at ", n),
-        (Thing::Thread(_), Fate::Removed(_) | Fate::Flushed(_) | Fate::Waits)
-        | (Thing::Object(_) | Thing::Interrupt(_, _), _) => put_fate(out, fate),
+    match thing {
+        Thing::Object(_) => put_fate(out, fate),
+        Thing::Interrupt(_, _) => put_then_at(out, b"begun at ", b"not begun any more", fate),
+        Thing::Thread(_) => put_then_at(out, b"taken up at ", b"not taken up any more", fate),
+        Thing::Timer(_) => put_then_at(out, b"expires at ", b"does not expire any more", fate),
+    }
+}
+
+/// Adds that the timer isn't set, and when it expired.
+fn put_not_set(
+    out: &mut Text,
+    input: &Input,
+    timer: TimerNo,
+    expired: Option<u64>,
+) -> Result<(), AllocError>
+    requires { IsSound input.now }
+{
+    put_timer(out, input, timer)?;
+    put(out, b" isn't set")?;
+    match expired {
+        Some(number) => put_at(out, b"; it last expired at ", number),
+        None => Ok(()),
+    }
+}
+
+/// Adds when the timer was set, and when it is due.
+fn put_set(
+    out: &mut Text,
+    input: &Input,
+    timer: TimerNo,
+    setting: &Setting,
+) -> Result<(), AllocError>
+    requires { IsSound input.now }
+{
+    put_timer(out, input, timer)?;
+    put_at(out, b" is set since ", setting.number)?;
+    put_at(out, b": due at ", setting.due)?;
+    if setting.period == 0 {
+        return Ok(());
+    }
+    put_at(out, b", period ", u64::from(setting.period))
+}
+
+/// Adds what is told of a timer.
+fn put_timer_reason(out: &mut Text, input: &Input, reason: &Reason) -> Result<(), AllocError>
+    requires { IsSound input.now }
+{
+    match reason {
+        Reason::NotSet { timer, expired } => put_not_set(out, input, *timer, *expired),
+        Reason::IsSet { timer, setting } => put_set(out, input, *timer, setting),
+        Reason::IsDue { time, .. } => put_at(out, b"it is due: the time is ", *time),
+        Reason::NotDue { time, .. } => put_at(out, b"it isn't due yet: the time is ", *time),
+        Reason::ExpiresFirst { key, at } => {
+            put_key(out, input, key)?;
+            put_at(out, b", set at ", *at)?;
+            put(out, b", expires first")
+        }
+        Reason::OwesSweep(p) => {
+            put_cpu(out, *p)?;
+            put(out, b" owes a sweep of the timers")
+        }
+        Reason::NoSweep => put(out, b"no processor owes a sweep of the timers"),
+        Reason::NeverInserted
+        | Reason::Ended { .. }
+        | Reason::Waits(_)
+        | Reason::First { .. }
+        | Reason::Behind { .. }
+        | Reason::Runs(_)
+        | Reason::NotRunning(_)
+        | Reason::InRegions { .. }
+        | Reason::Stands(_)
+        | Reason::TooHigh(_)
+        | Reason::Noticed { .. }
+        | Reason::Unnoticed { .. }
+        | Reason::NotAsked(_)
+        | Reason::AskedNothing { .. }
+        | Reason::Cut(_)
+        | Reason::Next { .. }
+        | Reason::NoNext { .. }
+        | Reason::Then(_)
+        | Reason::Ready(_)
+        | Reason::TakenFirst { .. }
+        | Reason::OnOwn(_)
+        | Reason::MustFirst(_)
+        | Reason::NotTaken { .. } => Ok(()),
     }
 }
 
@@ -470,7 +574,15 @@ fn put_ready(out: &mut Text, input: &Input, away: &Away) -> Result<(), AllocErro
 fn put_not_taken(out: &mut Text, p: CpuNo, kind: ScheduleKind) -> Result<(), AllocError> {
     put_cpu(out, p)?;
     put(out, b" can't take it up now: ")?;
-    put(out, kind.name().as_bytes())
+    put(out, cause_words(kind))
+}
+
+/// Adds which event noticed a request.
+fn put_noticed(out: &mut Text, at: Option<u64>) -> Result<(), AllocError> {
+    match at {
+        Some(number) => put_at(out, b", noticed at ", number),
+        None => put(out, b", noticed from the start"),
+    }
 }
 
 /// Adds the sentences that speak of requests.
@@ -515,8 +627,7 @@ fn put_reason(
         Reason::Stands(stood) | Reason::TooHigh(stood) => put_stood(out, input, stood),
         Reason::Noticed { request, at, since } => {
             put_asked(out, request, *at)?;
-            put(out, b", noticed")?;
-            put_since(out, *since)
+            put_noticed(out, *since)
         }
         Reason::Unnoticed { request, at } => {
             put_asked(out, request, *at)?;
@@ -557,6 +668,13 @@ fn put_reason(
             put(out, b" has to do something else first")
         }
         Reason::NotTaken { cpu, kind } => put_not_taken(out, *cpu, *kind),
+        Reason::NotSet { .. }
+        | Reason::IsSet { .. }
+        | Reason::IsDue { .. }
+        | Reason::NotDue { .. }
+        | Reason::ExpiresFirst { .. }
+        | Reason::OwesSweep(_)
+        | Reason::NoSweep => put_timer_reason(out, input, reason),
     }
 }
 

@@ -4,7 +4,8 @@ ghost use Rattle.nt_why.specs.Says.{holds_back};
 
 use crate::fates::{Fate, Object};
 use nt_event::{
-    ApcKind, Body, CpuNo, Importance, Level, Mode, Regions, ScheduleKind, ThreadNo, What,
+    ApcKind, Body, CpuNo, Importance, Level, Mode, Regions, ScheduleKind, Setting, ThreadNo,
+    TimerKey, TimerNo, What,
 };
 use std::alloc::AllocError;
 
@@ -177,6 +178,36 @@ pub enum Reason {
         cpu: CpuNo,
         kind: ScheduleKind,
     },
+    /// The timer isn't set; `expired` is the number of the last event that expired it.
+    NotSet {
+        timer: TimerNo,
+        expired: Option<u64>,
+    },
+    /// The timer is set, by this event and to this time.
+    IsSet {
+        timer: TimerNo,
+        setting: Setting,
+    },
+    /// The time has come to that at which the timer is due.
+    IsDue {
+        due: u64,
+        time: u64,
+    },
+    /// The time is before that at which the timer is due.
+    NotDue {
+        due: u64,
+        time: u64,
+    },
+    /// Another timer or delay, set by this event, expires before it.
+    ExpiresFirst {
+        key: TimerKey,
+        at: u64,
+    },
+    /// The processor owes a sweep of the timers.
+    OwesSweep(CpuNo),
+    /// No processor owes a sweep of the timers: none has begun a clock interrupt since its last
+    /// sweep, or set a timer that was due already.
+    NoSweep,
 }
 
 impl Reason {
@@ -196,7 +227,10 @@ impl Reason {
             | Reason::NoNext { .. }
             | Reason::OnOwn(_)
             | Reason::MustFirst(_)
-            | Reason::NotTaken { .. } => true,
+            | Reason::NotTaken { .. }
+            | Reason::NotDue { .. }
+            | Reason::ExpiresFirst { .. }
+            | Reason::NoSweep => true,
             Reason::NeverInserted
             | Reason::Ended { .. }
             | Reason::Waits(_)
@@ -207,7 +241,11 @@ impl Reason {
             | Reason::AskedNothing { .. }
             | Reason::Then(_)
             | Reason::Ready(_)
-            | Reason::TakenFirst { .. } => false,
+            | Reason::TakenFirst { .. }
+            | Reason::NotSet { .. }
+            | Reason::IsSet { .. }
+            | Reason::IsDue { .. }
+            | Reason::OwesSweep(_) => false,
         }
     }
 }

@@ -2,15 +2,18 @@
 ghost use Rattle.std.specs.Option.{option_or};
 ghost use Rattle.std.specs.Prelude.{◌≡◌, ◌≤◌, ◌==◌, ◌&&◌, None, Some, false, if◌then◌else◌, length};
 ghost use Rattle.std.specs.Prelude.{nat_le};
+ghost use Rattle.nt_event.specs.declared.commands.TimerKey.{TimerKey};
+ghost use Rattle.nt_event.specs.Eligible.{same_key};
 ghost use Rattle.nt_event.specs.Families.{in_begin, in_switch};
 ghost use Rattle.nt_event.specs.Requests.{begins_class};
 ghost use Rattle.nt_history.specs.Briefs.{events_in};
 ghost use Rattle.nt_why.specs.Past.{past_at};
 ghost use Rattle.nt_why.specs.Sought.{begun_by as begun_in, first_from as first_in};
-ghost use Rattle.nt_why.specs.Sought.{is_sought as sought_in};
+ghost use Rattle.nt_why.specs.Sought.{expires as expires_in, is_sought as sought_in};
+ghost use Rattle.nt_why.specs.Sought.{last_in as last_sought};
 
 use crate::fates::Fate;
-use nt_event::{Begun, CpuNo, Event, Level, ThreadNo, What};
+use nt_event::{Begun, CpuNo, Event, Level, ThreadNo, TimerKey, TimerNo, What};
 use nt_history::Briefs;
 
 /// What is sought among events.
@@ -20,6 +23,8 @@ pub(crate) enum Sought {
     Interrupt(CpuNo, Level),
     /// The switch to the thread.
     Thread(ThreadNo),
+    /// The expiry of the timer.
+    Timer(TimerNo),
 }
 
 /// Whether the interrupt of this level begins.
@@ -76,6 +81,38 @@ fn takes_up(sought: ThreadNo, what: &What) -> bool
     }
 }
 
+/// Whether the key is that of the timer.
+pub(crate) fn is_of_timer(sought: TimerNo, key: &TimerKey) -> bool
+    ensures { result ≡ same_key key.now (TimerKey.Timer sought) }
+{
+    match key {
+        TimerKey::Timer(timer) => timer.0 == sought.0,
+        TimerKey::Delay(_) => false,
+    }
+}
+
+/// Whether an event expires the timer.
+pub(crate) fn expires(sought: TimerNo, what: &What) -> bool
+    ensures { result ≡ expires_in sought what.now }
+{
+    match what {
+        What::Expire { key, .. } => is_of_timer(sought, key),
+        What::Call { .. }
+        | What::Look { .. }
+        | What::Begin { .. }
+        | What::Normal { .. }
+        | What::End { .. }
+        | What::Fire { .. }
+        | What::Clean { .. }
+        | What::Switch { .. }
+        | What::Rewait { .. }
+        | What::Flush { .. }
+        | What::Gone { .. }
+        | What::Free { .. }
+        | What::Rest => false,
+    }
+}
+
 /// Whether the event is sought.
 fn is_sought(sought: &Sought, event: &Event) -> bool
     ensures { result ≡ sought_in sought.now event.now }
@@ -83,6 +120,7 @@ fn is_sought(sought: &Sought, event: &Event) -> bool
     match sought {
         Sought::Interrupt(p, level) => event.cpu.0 == p.0 && begins(*level, &event.what),
         Sought::Thread(thread) => takes_up(*thread, &event.what),
+        Sought::Timer(timer) => expires(*timer, &event.what),
     }
 }
 
@@ -127,6 +165,32 @@ pub(crate) fn first_from(
         first = first_after(first, sought, from, at, &event);
     }
     first
+}
+
+/// The number of the last event that is sought after the event of this number, where it was this
+/// one before.
+fn last_after(last: Option<u64>, sought: &Sought, at: usize, event: &Event) -> Option<u64>
+    ensures { result ≡ (if sought_in sought.now event.now then Some at else last) }
+{
+    if is_sought(sought, event) {
+        Some(at as u64)
+    } else {
+        last
+    }
+}
+
+/// The number of the last of `end` events that is sought.
+pub(crate) fn last_in(events: &Briefs<'_>, sought: &Sought, end: usize) -> Option<u64>
+    requires { end ≤ length events.now.briefs.now }
+    ensures { result ≡ last_sought sought.now
+        (past_at end (events_in events.now.briefs.now events.now.rises.now)) }
+{
+    let mut last = None;
+    for at in 0..end {
+        let event = events.event(at);
+        last = last_after(last, sought, at, &event);
+    }
+    last
 }
 
 /// What became of the thing: the event of this number began it, or it waits.

@@ -7,7 +7,7 @@ ghost use Rattle.nt_script.specs.Sound.{IsSound};
 use crate::{Object, Reason, Thing, print_reasons, read_interrupt, why};
 use nt_core::run;
 use nt_event::limits::{EVENTS, TURNS};
-use nt_event::{ApcNo, CpuNo, DpcNo, Level, ThreadNo};
+use nt_event::{ApcNo, CpuNo, DpcNo, Level, ThreadNo, TimerNo};
 use nt_history::History;
 use nt_script::{Input, read};
 use nt_text::INPUT_LIMIT;
@@ -97,7 +97,7 @@ then: begun at 23
 it is the first of its part
 p1 is at level 0 since 21: base b, frame 1
 the insert at 8 did not ask for class 2 of p1
-class 2 of p1 was asked at 16, noticed since 17
+class 2 of p1 was asked at 16, noticed at 17
 then: begun at 23
 ",
     ),
@@ -115,8 +115,8 @@ it is the first APC of its kind there
 * w isn't running on p0: blocked since 4, wait kernel plain, at level 0
 * w is in a guarded region
 p0 is at level 0 since 4: no routine runs
-class 1 of p0 was asked at 8, noticed since 9
-* p0 has no next event: NothingToDo
+class 1 of p0 was asked at 8, noticed at 9
+* p0 has no next event: it has nothing to do, or is cut
 then: waits at the end
 ",
 )];
@@ -155,7 +155,7 @@ then: begun at 10
     (
         4,
         "* p0 is at level 5 since 2: int 5, frame 2
-class 4 of p0 was asked at 3, noticed since 3
+class 4 of p0 was asked at 3, noticed at 3
 * next on p0 comes: call 2 interrupt 0 8
 then: begun at 10
 ",
@@ -163,7 +163,7 @@ then: begun at 10
     (
         10,
         "p0 is at level 0 since 9: base main, frame 0
-class 4 of p0 was asked at 3, noticed since 3
+class 4 of p0 was asked at 3, noticed at 3
 then: begun at 10
 ",
     ),
@@ -211,7 +211,7 @@ then: taken up at 15
         3,
         "* worker isn't running on p0: blocked since 1, wait kernel plain, at level 0; main runs
 p0 is at level 0 since 2: base main, frame 2
-* p0 can't take it up now: BadChoice
+* p0 can't take it up now: the thread isn't ready, or other work comes first
 then: taken up at 15
 ",
     ),
@@ -219,7 +219,7 @@ then: taken up at 15
         9,
         "* worker isn't running on p0: ready since 8; main runs
 * p0 is at level 2 since 7: dpc work, frame 7
-* p0 can't take it up now: BadChoice
+* p0 can't take it up now: the thread isn't ready, or other work comes first
 then: taken up at 15
 ",
     ),
@@ -239,6 +239,115 @@ const OF_MAIN: [(u32, &str); 1] = [(
 the round-robin rule takes up worker first
 p0 is at level 0 from the start: no routine runs
 then: taken up at 2
+",
+)];
+
+/// A one-shot timer and a periodic one, each cancelled in the routine of its own DPC.
+const TIMERS: &str = "cpus 1
+dpc d1 c1
+dpc d2 c2
+timer oneshot d1
+timer tick d2
+thread main 0 body
+routine c1
+canceltimer oneshot
+exit
+routine c2
+canceltimer tick
+exit
+routine body
+settimer oneshot 1 0
+settimer tick 1 1
+clock 1
+note 1
+clock 5
+note 2
+exit
+";
+
+/// What is told of the timer `tick` of [`TIMERS`] after so many events.
+const OF_TICK: [(u32, &str); 6] = [
+    (
+        2,
+        "timer tick isn't set
+then: expires at 8
+",
+    ),
+    (
+        3,
+        "timer tick is set since 2: due at 1, period 1
+* it isn't due yet: the time is 0
+* no processor owes a sweep of the timers
+then: expires at 8
+",
+    ),
+    (
+        5,
+        "timer tick is set since 2: due at 1, period 1
+it is due: the time is 1
+* timer oneshot, set at 1, expires first
+* p0 is at level 13 since 4: int 13, frame 4
+p0 owes a sweep of the timers
+* next on p0 comes: end 4
+then: expires at 8
+",
+    ),
+    (
+        8,
+        "timer tick is set since 2: due at 1, period 1
+it is due: the time is 1
+p0 is at level 0 since 5: base main, frame 0
+p0 owes a sweep of the timers
+then: expires at 8
+",
+    ),
+    (
+        11,
+        "timer tick is set since 8: due at 2, period 1
+* it isn't due yet: the time is 1
+* p0 is at level 2 since 10: dpc d1, frame 10
+p0 owes a sweep of the timers
+* next on p0 comes: call 10 canceltimer oneshot
+then: does not expire any more
+",
+    ),
+    (
+        99,
+        "timer tick isn't set; it last expired at 8
+then: does not expire any more
+",
+    ),
+];
+
+/// A clock interrupt of processor 1 expires a timer that processor 0 set and does not sweep.
+const OTHERS_TIMER: &str = "cpus 2
+dpc d r
+timer t d
+thread a 0 ra
+thread b 1 rb
+routine r
+exit
+routine ra
+settimer t 1 0
+note 1
+note 2
+note 3
+exit
+routine rb
+note 11
+clock 2
+note 12
+exit
+";
+
+/// What is told of the timer of [`OTHERS_TIMER`] after so many events.
+const OF_OTHERS: [(u32, &str); 1] = [(
+    10,
+    "timer t is set since 2: due at 1
+it is due: the time is 2
+p1 is at level 0 since 9: base b, frame 1
+p1 owes a sweep of the timers
+then: expires at 11
 ",
 )];
 
@@ -396,6 +505,22 @@ fn a_thread_that_waits(rt: HostRuntime) -> Result<(), AllocError> {
 fn a_thread_that_comes_later(rt: HostRuntime) -> Result<(), AllocError> {
     let main = Thing::Thread(ThreadNo(1));
     let told = text_tells(rt.alloc(), WORKER, &main, &OF_MAIN)?;
+    assert!(rt; told);
+    Ok(())
+}
+
+#[test]
+fn a_timer_and_its_sweep(rt: HostRuntime) -> Result<(), AllocError> {
+    let tick = Thing::Timer(TimerNo(1));
+    let told = text_tells(rt.alloc(), TIMERS, &tick, &OF_TICK)?;
+    assert!(rt; told);
+    Ok(())
+}
+
+#[test]
+fn a_timer_that_another_processor_expires(rt: HostRuntime) -> Result<(), AllocError> {
+    let timer = Thing::Timer(TimerNo(0));
+    let told = text_tells(rt.alloc(), OTHERS_TIMER, &timer, &OF_OTHERS)?;
     assert!(rt; told);
     Ok(())
 }

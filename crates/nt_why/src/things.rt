@@ -1,6 +1,6 @@
 //! The things of a script that are asked about.
 use crate::fates::Object;
-use nt_event::{CpuNo, Level, ThreadNo};
+use nt_event::{CpuNo, Level, ThreadNo, TimerNo};
 
 /// A thing that may not have run yet.
 #[derive(Clone, Copy, PartialEq, Eq, Debug)]
@@ -11,4 +11,6 @@ pub enum Thing {
     Interrupt(CpuNo, Level),
     /// A thread.
     Thread(ThreadNo),
+    /// A timer.
+    Timer(TimerNo),
 }

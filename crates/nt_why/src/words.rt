@@ -8,8 +8,8 @@ use nt_line::fields;
 use nt_script::Input;
 use nt_text::is_word;
 
-/// The thing that two words name: `dpc NAME`, `apc NAME` or `thread NAME`; None exactly where they
-/// name none of the input's script.
+/// The thing that two words name: `dpc NAME`, `apc NAME`, `thread NAME` or `timer NAME`; None
+/// exactly where they name none of the input's script.
 pub fn read_thing(input: &Input, kind: &[u8], name: &[u8]) -> Option<Thing>
     ensures { result ≡ read_words input.now.names kind.now name.now }
 {
@@ -28,6 +28,12 @@ pub fn read_thing(input: &Input, kind: &[u8], name: &[u8]) -> Option<Thing>
     if is_word(kind, b"thread") {
         return match fields::thread(&input.names, name) {
             Ok(thread) => Some(Thing::Thread(thread)),
+            Err(_) => None,
+        };
+    }
+    if is_word(kind, b"timer") {
+        return match fields::timer(&input.names, name) {
+            Ok(timer) => Some(Thing::Timer(timer)),
             Err(_) => None,
         };
     }
