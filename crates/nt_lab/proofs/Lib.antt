@@ -1,2 +1,3 @@
 pub mod Said
 pub mod Shown
+pub mod Written

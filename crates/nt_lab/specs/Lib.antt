@@ -1,3 +1,4 @@
 pub mod Replies
+pub mod Looks
 pub mod Witnesses
 pub mod Outcome

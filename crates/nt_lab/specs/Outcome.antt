@@ -1,6 +1,7 @@
 -- What is replied to what is asked, and when each status comes.
-use Rattle.std.specs.Prelude.{List, length, ℕ, ◌<◌, ◌≡◌}
+use Rattle.std.specs.Prelude.{List, Ok, length, ℕ, ◌++◌, ◌<◌, ◌≡◌, ◌≤◌}
 use Rattle.nt_event.specs.declared.events.Turn.{Turn}
+use Rattle.nt_event.specs.declared.limits.TheConstants.{CPUS}
 use Rattle.nt_ask.specs.declared.answer.Answer.{Answer}
 use Rattle.nt_ask.specs.declared.answer.Status.{Status}
 use Rattle.nt_ask.specs.declared.answer.Status.TheVariants as exit
@@ -10,7 +11,10 @@ use Rattle.nt_ask.specs.Answers.{answer_text, verdict_status}
 use Rattle.nt_ask.specs.declared.words.Form.TheVariants as form
 use Rattle.nt_findings.specs.Verdicts.{IsAnswer}
 use Rattle.nt_log.specs.declared.schedules.Schedule.{Schedule}
-use Rattle.nt_log.specs.Schedules.{schedule_text, turn_bound}
+use Rattle.nt_log.specs.Reading.{reading}
+use Rattle.nt_log.specs.Schedules.{IsTextOf, turn_bound}
+use Rattle.nt_script.specs.Text.{text as script_text}
+use Rattle.nt_text.specs.declared.lines.TheConstants.{INPUT_LIMIT}
 use Rattle.nt_verdict.specs.Fails.{Fails}
 use Rattle.nt_witness.specs.Limits.{most_of}
 use Rattle.nt_lab.specs.Replies.{memory_line, no_expectation_line, no_witness_line, too_many_line, unknown_line}
@@ -38,12 +42,21 @@ IsAskReply asked exit.Read text = ⊥
 IsAskReply asked exit.Write text = ⊥
 IsAskReply asked exit.TooLong text = ⊥
 
+-- A witness of the expectation of this number is written: the text is that of a schedule which is one. Behind the
+-- script's text it is short enough for an input, and the reader of a replay reads it as this schedule, whichever number
+-- its first line has.
+pub record IsWritten (asked : Asked) (number : ℕ) (text : List ℕ) : Type 0 where
+  pub schedule : Schedule
+  pub is : IsWitnessOf asked.input.script (expected asked number) schedule
+  pub written : IsTextOf text asked.input schedule
+  pub short : length (script_text asked.input ++ text) ≤ INPUT_LIMIT
+  pub read : (line : ℕ) → reading CPUS asked.input line text ≡ Ok schedule
+
 -- What is replied where a witness of the expectation of this number is asked for: a schedule that is one; that there is
 -- no such expectation; that it fails in no run; that turns which show that it fails are more than a schedule may have;
 -- that nothing is known; or the line of want of memory.
 abbrev pub IsWitnessReply : Asked → ℕ → Status → List ℕ → Type 0
-IsWitnessReply asked number exit.Ok text =
-    (w : Schedule) × IsWitnessOf asked.input.script (expected asked number) w × (text ≡ schedule_text asked.input w)
+IsWitnessReply asked number exit.Ok text = IsWritten asked number text
 IsWitnessReply asked number exit.NoExpectation text =
     (length asked.expectations < number) × (text ≡ no_expectation_line)
 IsWitnessReply asked number exit.NoWitness text =

@@ -67,9 +67,10 @@ fn answered(alloc: Global, asked: &Asked, states: u32) -> Reply
 /// holds. The status is `Ok` where all hold, `Fails` where one fails, and else `Unknown`.
 ///
 /// For `witness` a schedule is written, with `Ok`: its replay is a settled run that begins with
-/// turns that show that the expectation fails. Else a line: `NoExpectation` where there are fewer,
-/// `NoWitness` only where it fails in no run, `TooManyTurns` only where a processor takes more
-/// turns to show it than a schedule may have, `Unknown` where nothing is known.
+/// turns that show that the expectation fails, and its text is read again as this schedule. Else a
+/// line: `NoExpectation` where there are fewer, `NoWitness` only where it fails in no run,
+/// `TooManyTurns` only where a processor takes more turns to show it than a schedule may have,
+/// `Unknown` where nothing is known.
 ///
 /// Want of memory, `Memory`, may come at any place.
 pub fn reply_to(alloc: Global, form: Form, asked: &Asked) -> Reply

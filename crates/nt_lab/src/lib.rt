@@ -7,6 +7,7 @@
 #![tactic(auto)]
 
 mod asking;
+mod looks;
 mod reply;
 mod witnessing;
 

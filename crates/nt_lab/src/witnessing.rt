@@ -12,6 +12,7 @@ ghost use Rattle.nt_lab.specs.Outcome.{IsWitnessReply};
 ghost use Rattle.nt_lab.specs.Replies.{text_of};
 ghost use Rattle.nt_lab.specs.Witnesses.{Show, expected};
 
+use crate::looks::read_looks;
 use crate::reply::{Reply, Text, line, no_memory};
 use nt_ask::{Asked, Status};
 use nt_event::Turn;
@@ -37,6 +38,7 @@ fn scheduled(
 {
     let _number = number;
     let _turns = turns;
+    read_looks(&schedule.list);
     match print_schedule(alloc, &asked.input, schedule) {
         Ok(text) => Reply {
             status: Status::Ok,
