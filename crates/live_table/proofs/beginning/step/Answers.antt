@@ -6,7 +6,7 @@ use Rattle.nt_mark.specs.declared.marks.Marks.{Marks}
 use Rattle.nt_mark.specs.declared.seats.Pass.{Pass}
 use Rattle.nt_mark.specs.Names.{pass_view}
 use Rattle.nt_live.proofs.Turning.{IsTold, advanced, serves_at_work}
-use Rattle.nt_live.specs.Turning.{IsAdvanced, IsSeated, did_of}
+use Rattle.nt_live.specs.Turning.{IsAdvanced, IsSeated, made_of, outcome_of}
 use Rattle.live_table.proofs.beginning.step.Goals as goal
 
 pub advance-turned-requires-clause-serves : goal.advance-turned-requires-clause-serves
@@ -34,7 +34,7 @@ returns g c =
     let seated : IsSeated t s limit x a.pass = subst (λ (p : Pass). IsSeated t s limit x p) (sym n.0) c.requires.seated in
     let grows : SeatGrows 0 z.last (pass_view a.pass) (pass_view z.pass) =
     subst (λ (k : ℕ). SeatGrows k z.last (pass_view a.pass) (pass_view z.pass)) n.1.1 c.advance-turned.ensures.grows in
-    let is : IsAdvanced t s limit x y a.pass z.pass (did_of z.last r) =
+    let is : IsAdvanced t s limit x y a.pass z.pass (made_of z.last r) (outcome_of r) =
     advanced t s limit a.marks.now z.marks.now x y a.pass z.pass z.last r a.cpus seated z.seat z.listed c.advance-turned.ensures.knows grows
     (c.advance-turned.ensures.ok, c.advance-turned.ensures.same) in
     subst (λ (q : Pass). IsSeated t s limit y q) (sym c.leave-pass.ensures.pass) is.seated
