@@ -96,7 +96,12 @@ fn things_have_a_kind_and_a_name(rt: HostRuntime) -> Result<(), Fail> {
         after: Some(13),
     };
     assert!(rt; asks(alloc, &["why", "apc", "done", "13", "a"], why, true)?);
-    assert!(rt; asks_nothing(alloc, &["why", "timer", "t"])?);
+    let timer = Work::Why {
+        kind: ThingKind::Timer,
+        after: None,
+    };
+    assert!(rt; asks(alloc, &["why", "timer", "t"], timer, false)?);
+    assert!(rt; asks_nothing(alloc, &["why", "lock", "k"])?);
     let int = Work::Why {
         kind: ThingKind::Interrupt,
         after: Some(12),
