@@ -44,6 +44,10 @@ _ntlab() {
         --seed | --turns | --from | --to)
             return
             ;;
+        why)
+            mapfile -t COMPREPLY < <(compgen -W "dpc apc thread timer int" -- "$word")
+            return
+            ;;
     esac
     if [[ -z $form ]]; then
         mapfile -t COMPREPLY < <(compgen -W "$forms" -- "$word")
