@@ -12,8 +12,6 @@
 ghost use Rattle.nt_ahead.specs.Like.{WholeListsTellAll};
 
 mod choices;
-#[cfg(test)]
-mod tests;
 mod turns;
 
 pub use turns::turns_ahead;

@@ -15,6 +15,3 @@ mod words;
 pub use answer::{Answer, Status, Verdict, print_answer, verdict_status};
 pub use reading::{AskRefusal, Asked, read_asked};
 pub use words::{Form, LEAST_STATES, MOST_NUMBER, MOST_STATES, USUAL_STATES, form_of};
-
-#[cfg(test)]
-mod tests;

@@ -19,6 +19,3 @@ mod unshown;
 pub use nt_ask::Status;
 pub use nt_lab_words::file_of;
 pub use top::{ntlab, starved, unopened};
-
-#[cfg(test)]
-mod tests;

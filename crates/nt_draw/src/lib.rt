@@ -172,6 +172,3 @@ pub fn draw_text(
     };
     list_report(alloc, &subject, text.as_slice())
 }
-
-#[cfg(test)]
-mod tests;

@@ -27,6 +27,3 @@ pub use printing::{print_expectations, put_expectation, put_watched};
 pub use reading::{Expectations, read_expectations};
 pub use refusals::{ExpectKind, ExpectRefusal};
 pub use replies::may_reply;
-
-#[cfg(test)]
-mod tests;

@@ -21,6 +21,3 @@ pub use laws::{
     strict_texts_stay,
 };
 pub use tidying::{Tidied, tidy};
-
-#[cfg(test)]
-mod tests;

@@ -13,6 +13,3 @@ pub use words::{
     Call, How, Order, Task, ThingKind, USAGE, USUAL, VERSION, Work, call_of, file_of, fourth_word,
     named_file, third_word,
 };
-
-#[cfg(test)]
-mod tests;

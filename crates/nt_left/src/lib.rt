@@ -29,6 +29,3 @@ pub use finding::left;
 pub use kinds::{ApcCause, CpuCause, Left};
 pub use printing::print_left;
 pub use settings::setting_of;
-
-#[cfg(test)]
-mod tests;

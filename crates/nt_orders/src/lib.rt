@@ -12,8 +12,6 @@ mod drawing;
 mod draws;
 mod machines;
 mod randoms;
-#[cfg(test)]
-mod tests;
 
 pub use beginnings::{GoneOn, Went, go_on};
 pub use randoms::random;

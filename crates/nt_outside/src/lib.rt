@@ -12,8 +12,6 @@ mod reading;
 mod sink;
 mod source;
 mod streams;
-#[cfg(test)]
-mod tests;
 mod writing;
 
 pub use error::{Failed, ReadRefusal, WriteFault};

@@ -22,6 +22,3 @@ mod walking;
 
 pub use fault::Fault;
 pub use message::refusal_message;
-
-#[cfg(test)]
-mod tests;

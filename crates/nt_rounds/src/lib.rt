@@ -12,8 +12,6 @@ mod graph;
 mod known;
 mod outcome;
 mod path;
-#[cfg(test)]
-mod tests;
 
 pub use finding::depths;
 pub use graph::Graph;

@@ -14,6 +14,3 @@ mod showing;
 pub use parts::{Behind, Part, behind_of, script_part};
 pub use refusal::ShownRefusal;
 pub use showing::{ShownRun, shown_run};
-
-#[cfg(test)]
-mod tests;

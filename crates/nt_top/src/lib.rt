@@ -45,6 +45,3 @@ pub use headline::{
 pub use nt_words::is_live;
 pub use status::Status;
 pub use top::{ntrun, plain, starved};
-
-#[cfg(test)]
-mod tests;

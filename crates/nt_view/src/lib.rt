@@ -13,8 +13,6 @@ mod events;
 mod frames;
 mod names;
 mod replies;
-#[cfg(test)]
-mod tests;
 mod viewing;
 mod words;
 

@@ -26,6 +26,3 @@ pub use printing::print_reasons;
 pub use reasons::{Away, Does, Pending, Reason, Request, Sort, Stood, Top};
 pub use things::Thing;
 pub use words::{read_interrupt, read_thing};
-
-#[cfg(test)]
-mod tests;

@@ -9,7 +9,5 @@
 mod choosing;
 mod completing;
 mod counting;
-#[cfg(test)]
-mod tests;
 
 pub use choosing::witness;

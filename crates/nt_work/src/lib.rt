@@ -8,8 +8,6 @@ mod item;
 mod passes;
 mod queue;
 mod rule;
-#[cfg(test)]
-mod tests;
 mod view;
 mod waiting;
 mod worker;

@@ -6,7 +6,7 @@ ghost use Rattle.nt_script.specs.Sound.{IsSound};
 ghost use Rattle.nt_text.specs.declared.lines.TheConstants.{INPUT_LIMIT};
 ghost use Rattle.nt_ask.specs.Answers.{VerdictFits};
 
-use crate::{
+use nt_ask::{
     Answer, AskRefusal, Asked, Form, Status, Verdict, form_of, print_answer, read_asked,
     verdict_status,
 };

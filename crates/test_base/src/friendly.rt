@@ -2,7 +2,7 @@
 ghost use Rattle.std.specs.Prelude.{◌≤◌, length};
 ghost use Rattle.nt_text.specs.declared.lines.TheConstants.{INPUT_LIMIT};
 
-use crate::{field_place, tidy};
+use nt_friendly::{field_place, tidy};
 use nt_text::INPUT_LIMIT;
 use std::alloc::{AllocError, Global};
 use std::test::Fail;

@@ -1,6 +1,6 @@
 //! Command lines, and what they ask for.
-use crate::{Call, How, Order, Task, ThingKind, Work, call_of, file_of};
 use nt_ask::Form;
+use nt_lab_words::{Call, How, Order, Task, ThingKind, Work, call_of, file_of};
 use std::alloc::{AllocError, Global};
 use std::test::Fail;
 

@@ -2,7 +2,7 @@
 // standard streams.
 ghost use Rattle.std.specs.Prelude.{◌≤◌};
 
-use crate::{
+use nt_outside::{
     Gate, MemorySink, MemorySource, OpenGate, ReadRefusal, Sink, Source, StdSink, StdSource,
     WriteFault, read_all, write_all,
 };

@@ -2,9 +2,9 @@
 ghost use Rattle.std.specs.Prelude.{◌≤◌, length};
 ghost use Rattle.nt_text.specs.declared.lines.TheConstants.{INPUT_LIMIT};
 
-use crate::{Fault, refusal_message};
 use nt_expect::ExpectKind;
 use nt_friendly::tidy;
+use nt_people::{Fault, refusal_message};
 use nt_text::{INPUT_LIMIT, ScriptKind, What10};
 use std::alloc::{AllocError, Global};
 use std::test::Fail;

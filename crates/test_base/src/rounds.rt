@@ -2,7 +2,7 @@
 //! hand.
 ghost use Rattle.std.specs.Prelude.{◌≡◌, ◌++◌, ◌∷◌, [], IfOk, OnOk};
 
-use crate::{Depths, Graph, depths};
+use nt_rounds::{Depths, Graph, depths};
 use std::alloc::{AllocError, Global};
 use std::test::Fail;
 

@@ -2,7 +2,7 @@
 //! runs of them, and what is refused.
 //!
 //! A function owns at most one value that is dropped, and ends once where it does.
-use crate::{Status, ntlab, starved, unopened};
+use nt_bench::{Status, ntlab, starved, unopened};
 use nt_lab_words::USAGE;
 use nt_outside::{MemorySink, MemorySource};
 use std::alloc::{AllocError, Global};

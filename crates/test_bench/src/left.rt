@@ -5,9 +5,9 @@ ghost use Rattle.nt_event.specs.Robin.{is_settled};
 ghost use Rattle.nt_event.specs.Step.{IsRun};
 ghost use Rattle.nt_script.specs.Sound.{IsSound};
 
-use crate::{left, print_left};
 use nt_core::run;
 use nt_history::History;
+use nt_left::{left, print_left};
 use nt_script::{Input, read};
 use std::alloc::{AllocError, Global};
 use std::test::Fail;

@@ -4,13 +4,13 @@ ghost use Rattle.std.specs.Prelude.{◌≤◌, ◌*◌, reverse};
 ghost use Rattle.nt_event.specs.Step.{IsRun};
 ghost use Rattle.nt_script.specs.Sound.{IsSound};
 
-use crate::{Object, Reason, Thing, print_reasons, read_interrupt, why};
 use nt_core::run;
 use nt_event::limits::{EVENTS, TURNS};
 use nt_event::{ApcNo, CpuNo, DpcNo, Level, ThreadNo, TimerNo};
 use nt_history::History;
 use nt_script::{Input, read};
 use nt_text::INPUT_LIMIT;
+use nt_why::{Object, Reason, Thing, print_reasons, read_interrupt, why};
 use std::alloc::{AllocError, Global};
 
 /// A thread of processor 0 queues DPCs of two importances for processor 1, which is busy.

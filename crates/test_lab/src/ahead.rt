@@ -3,7 +3,7 @@ ghost use Rattle.std.specs.Prelude.{◌≡◌, ◌+◌, ◌*◌, ◌<◌, IfOk, 
 ghost use Rattle.nt_event.specs.Script.{fits};
 ghost use Rattle.nt_shade_asks.specs.Follows.{HasRoom, IsOf, place_of};
 
-use crate::turns_ahead;
+use nt_ahead::turns_ahead;
 use nt_event::{CpuNo, Items, Rises, Script, Turn, class};
 use nt_shade_asks::{ClassAsks, Unnoticed};
 use std::alloc::{AllocError, Global};

@@ -8,7 +8,7 @@ ghost use Rattle.nt_script.specs.Sound.{IsSound};
 
 mod runs;
 
-use crate::{Span, draw, draw_text};
+use nt_draw::{Span, draw, draw_text};
 use nt_history::History;
 use nt_report::read_report;
 use nt_script::{Input, ScriptRefusal, read};

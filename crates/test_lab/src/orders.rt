@@ -1,11 +1,11 @@
 //! Runs of two small scripts. In the first a thread raises its level, queues a DPC and lowers the
 //! level, a worked row; in the second two threads are ready at once.
-use crate::{Went, go_on, random};
 use nt_event::{
     Command, CpuNo, DpcDecl, DpcNo, Items, Level, Routine, RoutineNo, ScheduleKind, Script,
     ThreadDecl, ThreadNo, Turn,
 };
 use nt_history::{History, Turns};
+use nt_orders::{Went, go_on, random};
 use std::alloc::{AllocError, Global};
 
 const SWITCH: Turn = Turn::Switch(CpuNo(0), ThreadNo(0));

@@ -1,10 +1,10 @@
 //! Which run a text shows: of a script alone, of a schedule and of a report.
 ghost use Rattle.nt_lab_words.specs.Words.{IsHow};
 
-use crate::{ShownRefusal, shown_run};
 use nt_event::ScheduleKind;
 use nt_lab_words::{How, USUAL};
 use nt_orders::Went;
+use nt_shown::{ShownRefusal, shown_run};
 use nt_text::INPUT_LIMIT;
 use std::alloc::{AllocError, Global};
 use std::test::Fail;

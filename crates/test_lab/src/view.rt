@@ -3,12 +3,12 @@
 ghost use Rattle.std.specs.Prelude.{◌≤◌, ◌*◌};
 ghost use Rattle.nt_script.specs.Sound.{IsSound};
 
-use crate::view;
 use nt_core::run;
 use nt_event::limits::{EVENTS, TURNS};
 use nt_history::History;
 use nt_script::{Input, read};
 use nt_text::INPUT_LIMIT;
+use nt_view::view;
 use std::alloc::Global;
 use std::test::Fail;
 

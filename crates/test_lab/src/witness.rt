@@ -3,12 +3,12 @@
 ghost use Rattle.std.specs.Prelude.{◌≡◌, IfOk};
 ghost use Rattle.nt_rows.specs.RaiseQueueLower.{script as row};
 
-use crate::witness;
 use nt_event::{
     Command, CpuNo, DpcDecl, DpcNo, Items, Level, Routine, RoutineNo, Script, ThreadDecl, ThreadNo,
     Turn,
 };
 use nt_history::{Turns, no_turn};
+use nt_witness::witness;
 use std::alloc::{AllocError, Global};
 
 const SWITCH: Turn = Turn::Switch(CpuNo(0), ThreadNo(0));

@@ -7,9 +7,9 @@
 ghost use Rattle.std.specs.Prelude.{◌<◌, ◌≡◌, false, map, string_bytes};
 ghost use Rattle.nt_words.specs.Forms.{names_live};
 
-use crate::{Status, ntrun, plain};
 use nt_outside::{Gate, MemorySink, MemorySource, OpenGate};
 use nt_script::split_at;
+use nt_top::{Status, ntrun, plain};
 use nt_words::USAGE;
 use std::alloc::{AllocError, Global};
 use std::sync::Wait;

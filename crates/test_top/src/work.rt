@@ -1,11 +1,8 @@
 //! Answers of a queue, row by row, and two workers that meet.
-use crate::auditing::audit;
-use crate::item::{Audited, Item, items};
-use crate::passes::WorkQueue;
-use crate::waiting::waiting_at;
 use nt_event::{Command, CpuNo, DpcNo, Event, Level, Reply, What};
 use nt_history::{Events, History};
 use nt_outside::{Gate, OpenGate};
+use nt_work::{Audited, Item, WorkQueue, audit, items, waiting_at};
 use std::alloc::{AllocError, Global};
 use std::hint::spin_loop;
 use std::sync::atomic::{AtomicU64, Ordering};

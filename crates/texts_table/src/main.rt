@@ -1,11 +1,12 @@
 //! What the layer of texts makes of a table: scripts, schedules and reports, verdicts on reports,
-//! command lines, and loads.
+//! command lines, loads, and expectations.
 //!
 //! A line of the input that begins with `== ` is a heading and is written again: it says what the
 //! cases below it are. Each other line is a case, for which one line is written. What is wanted is
 //! in `stdout`: it comes from outside this program.
 #![tactic(auto)]
 
+mod expectations;
 mod loads;
 mod reports;
 mod scripts;
@@ -25,6 +26,8 @@ enum Part {
     Words,
     /// Seeds of loads.
     Loads,
+    /// Lines of expectations.
+    Expectations,
 }
 
 /// The part that a heading begins, if the line is one.
@@ -34,6 +37,7 @@ fn heading(line: &str) -> Option<Part> {
         "== verdicts" => Some(Part::Verdicts),
         "== words" => Some(Part::Words),
         "== loads" => Some(Part::Loads),
+        "== expectations" => Some(Part::Expectations),
         _ => None,
     }
 }
@@ -45,6 +49,7 @@ fn put_case(rt: &HostRuntime, part: Part, row: &mut String, entry: &str) -> io::
         Part::Verdicts => verdicts::put_case(rt, row, entry),
         Part::Words => words::put_case(rt, entry),
         Part::Loads => loads::put_case(rt, entry),
+        Part::Expectations => expectations::put_case(rt, entry),
     }
 }
 

@@ -1,7 +1,7 @@
 //! `audit`: what was pending at each note, and that its workers work at the same time.
 use super::gives;
 use super::live::{MeetingGate, workers_meet};
-use crate::Status;
+use nt_top::Status;
 use std::test::Fail;
 
 /// An interrupt queues a DPC and requests another interrupt, in which a word is noted; the DPC

@@ -5,8 +5,8 @@ use super::{
     Form, Found, IDLE_TARGET, RAISE_QUEUE_LOWER, RAISED_REPORT, SELF_QUEUING, World, fails_each,
     gives, is_found, is_found_again, program, program_at, program_in, put_words, sound_world,
 };
-use crate::{Status, is_live};
 use nt_outside::Gate;
+use nt_top::{Status, is_live};
 use std::alloc::{AllocError, Global};
 use std::sync::Wait;
 use std::sync::atomic::{AtomicU64, Ordering};

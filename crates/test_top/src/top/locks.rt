@@ -1,6 +1,6 @@
 //! The forms on texts of version 2, which have spin locks and up to 64 processors.
 use super::{RAISE_QUEUE_LOWER, gives};
-use crate::Status;
+use nt_top::Status;
 use std::alloc::{AllocError, Global};
 use std::sync::Wait;
 use std::test::Fail;

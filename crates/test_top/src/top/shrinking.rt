@@ -1,6 +1,6 @@
 //! `shrink`: a schedule that still delivers a request, and why there is none.
 use super::{IDLE_TARGET, gives};
-use crate::Status;
+use nt_top::Status;
 use std::alloc::AllocError;
 use std::sync::Wait;
 use std::test::Fail;

@@ -1,6 +1,6 @@
 //! As many commands as a script may have.
 use super::gives;
-use crate::Status;
+use nt_top::Status;
 use std::alloc::AllocError;
 use std::sync::Wait;
 use std::test::Fail;

@@ -1,6 +1,6 @@
 //! `verify`: which commands are refused wherever they are reached, and the order of locks.
 use super::{RAISE_QUEUE_LOWER, gives};
-use crate::Status;
+use nt_top::Status;
 use std::test::Fail;
 
 /// A thread raises to a lower level than its own, and lowers to a higher one.

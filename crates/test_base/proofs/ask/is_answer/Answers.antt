@@ -1,6 +1,6 @@
 use Rattle.std.proofs.lemmas.List.Elements.{All-same}
 use Rattle.nt_ask.specs.Answers.{VerdictFits}
-use Rattle.nt_ask.proofs.tests.is_answer.Goals as goal
+use Rattle.test_base.proofs.ask.is_answer.Goals as goal
 
 pub answered-requires-clause-verdicts_fit : goal.answered-requires-clause-verdicts_fit
 answered-requires-clause-verdicts_fit c =

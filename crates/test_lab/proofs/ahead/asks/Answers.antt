@@ -2,7 +2,7 @@ use Rattle.std.proofs.Common.{arith, ◌*◌, ◌+◌, ◌≡◌}
 use Rattle.std.proofs.lemmas.List.Elements.{All-nil, All-push}
 use Rattle.nt_shade_asks.specs.Follows.{HasRoom}
 use Rattle.nt_shade_asks.proofs.Placed.{none_placed, one_placed}
-use Rattle.nt_ahead.proofs.tests.asks.Goals as goal
+use Rattle.test_lab.proofs.ahead.asks.Goals as goal
 
 pub loop-cpu-init : goal.loop-cpu-init
 loop-cpu-init c = (none_placed _ c.new-classes.ensures.items, rw c.new-classes.ensures.items (All-nil (HasRoom c.args.script.now)))

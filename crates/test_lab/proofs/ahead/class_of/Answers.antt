@@ -1,6 +1,6 @@
 use Rattle.std.proofs.Common.{ap, length, ◌∙◌}
 use Rattle.std.proofs.lemmas.List.{length-replicate}
-use Rattle.nt_ahead.proofs.tests.class_of.Goals as goal
+use Rattle.test_lab.proofs.ahead.class_of.Goals as goal
 
 pub returns-clause-room : goal.returns-clause-room
 returns-clause-room c = record {
