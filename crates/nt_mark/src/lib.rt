@@ -20,8 +20,6 @@
 mod marks;
 mod seats;
 mod steps;
-#[cfg(test)]
-mod tests;
 mod traits;
 mod view;
 

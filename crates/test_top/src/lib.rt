@@ -1,6 +1,8 @@
-//! Tests of the top call of `ntrun`, and of the work items that `audit` counts.
+//! Tests of the top call of `ntrun`, of the work items that `audit` counts, and of words without locks.
 #![tactic(auto)]
 
+#[cfg(test)]
+mod mark;
 #[cfg(test)]
 mod top;
 #[cfg(test)]

@@ -4,7 +4,7 @@ use Rattle.nt_mark.specs.Views.{reach, step_word, first_notes}
 use Rattle.nt_mark.specs.Rule.{IsAbove}
 use Rattle.nt_mark.specs.Names.{keeper_view, keeper_notes}
 use Rattle.nt_mark.proofs.Noting.{IsAbove-le}
-use Rattle.nt_mark.proofs.tests.Lane.act.Goals as goal
+use Rattle.test_top.proofs.mark.Lane.act.Goals as goal
 
 pub noted-requires-clause-above : goal.noted-requires-clause-above
 noted-requires-clause-above g c =

@@ -8,8 +8,8 @@ ghost use Rattle.nt_mark.specs.Names.{keeper_table, keeper_lane, keeper_notes, p
 ghost use Rattle.nt_mark.specs.Names.{pass_view};
 ghost use Rattle.nt_mark.specs.Closing.{AreNewKeepers, IsNewKeeper};
 
-use crate::{Keeper, Made, Marks, Pass, Shared, Shows};
 use nt_event::{CpuNo, Event, Level, What};
+use nt_mark::{Keeper, Made, Marks, Pass, Shared, Shows};
 use std::marker::{Brand, Model, PhantomData};
 use std::sync::{Mutex, Wait};
 use std::test::Fail;

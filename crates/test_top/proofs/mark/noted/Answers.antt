@@ -4,7 +4,7 @@ use Rattle.nt_mark.specs.Rule.{IsAbove}
 use Rattle.nt_mark.specs.Names.{keeper_view, pass_view, keeper_notes}
 use Rattle.nt_mark.proofs.Sharing.{told_entry}
 use Rattle.nt_mark.proofs.Noting.{IsAbove-push}
-use Rattle.nt_mark.proofs.tests.noted.Goals as goal
+use Rattle.test_top.proofs.mark.noted.Goals as goal
 
 pub note-requires-clause-knows : goal.note-requires-clause-knows
 note-requires-clause-knows c =
