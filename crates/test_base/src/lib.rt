@@ -1,4 +1,5 @@
-//! Tests of the base, the words and the texts for people: each module is named after the crate that it tests.
+//! Tests of the base, the words and the texts for people. Each module is named after the crate that
+//! it tests.
 #![tactic(auto)]
 
 #[cfg(test)]

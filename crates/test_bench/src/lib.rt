@@ -1,4 +1,5 @@
-//! Tests of what people are told: why a thing has not run, what is left, and the top call of `ntlab`.
+//! Tests of what people are told: why a thing has not run, what is left, and the top call of
+//! `ntlab`. Each module is named after the crate that it tests.
 #![tactic(auto)]
 
 #[cfg(test)]

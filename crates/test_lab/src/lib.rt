@@ -1,5 +1,5 @@
-//! Tests of single steps from a question to its answer: each module is named after the crate that it
-//! tests.
+//! Tests of single steps from a question to its answer. Each module is named after the crate that
+//! it tests.
 #![tactic(auto)]
 
 #[cfg(test)]

@@ -1,4 +1,5 @@
-//! Tests of the top call of `ntrun`, of the work items that `audit` counts, and of words without locks.
+//! Tests of the top call of `ntrun`, of the work items that `audit` counts, and of words without
+//! locks. Each module is named after the crate that it tests.
 #![tactic(auto)]
 
 #[cfg(test)]
