@@ -1,5 +1,5 @@
 //! The APC queues of a thread, and what regions and levels let through as a table.
-use crate::writing::{write_pick, write_yes};
+use crate::writing::{no_such_case, write};
 use nt_apc::{ApcKind, ApcNo, ApcQueues, Level, Pick, Regions};
 use std::alloc::{AllocError, Global};
 use std::io;
@@ -29,7 +29,7 @@ fn make_calls(rt: HostRuntime, case: &str, queues: &mut ApcQueues) -> io::Result
         "special ones stand before normal ones" => special_before_normal(rt, queues),
         "an object is inserted once" => once_in(rt, queues),
         "closed doors take no more and user apcs are flushed" => closed_doors(rt, queues),
-        _ => println!(rt; "  no such case"),
+        _ => no_such_case(rt),
     }
 }
 
@@ -43,23 +43,23 @@ fn pick(apc: u16, kind: ApcKind, number: u64) -> Pick {
 
 /// Writes the user APC that is flushed next, if any.
 fn write_flush(rt: HostRuntime, queues: &mut ApcQueues) -> io::Result<()> {
-    println!(rt; "  flush {:?}", queues.flush_next())
+    write(rt, "flush", &queues.flush_next())
 }
 
 /// Writes which APC may be delivered in no region at PASSIVE_LEVEL.
 fn write_deliverable(rt: HostRuntime, queues: &ApcQueues) -> io::Result<()> {
-    write_pick(rt, "deliverable", queues.deliverable(FREE, Level::PASSIVE))
+    write(rt, "deliverable", &queues.deliverable(FREE, Level::PASSIVE))
 }
 
 fn special_before_normal(rt: HostRuntime, queues: &mut ApcQueues) -> io::Result<()> {
-    write_yes(rt, "has kernel", queues.has_kernel())?;
+    write(rt, "has kernel", &queues.has_kernel())?;
     let normal = queues.insert(ApcNo(0), ApcKind::Normal, 4);
-    write_yes(rt, "insert 0", normal)?;
+    write(rt, "insert 0", &normal)?;
     let special = queues.insert(ApcNo(1), ApcKind::Special, 7);
-    write_yes(rt, "insert 1", special)?;
+    write(rt, "insert 1", &special)?;
     let second = queues.insert(ApcNo(2), ApcKind::Special, 9);
-    write_yes(rt, "insert 2", second)?;
-    write_yes(rt, "has kernel", queues.has_kernel())?;
+    write(rt, "insert 2", &second)?;
+    write(rt, "has kernel", &queues.has_kernel())?;
     write_deliverable(rt, queues)?;
     queues.take(pick(1, ApcKind::Special, 7));
     write_deliverable(rt, queues)?;
@@ -70,22 +70,22 @@ fn special_before_normal(rt: HostRuntime, queues: &mut ApcQueues) -> io::Result<
 }
 
 fn once_in(rt: HostRuntime, queues: &mut ApcQueues) -> io::Result<()> {
-    write_yes(rt, "open", queues.open_for(ApcNo(5)))?;
-    write_yes(rt, "insert", queues.insert(ApcNo(5), ApcKind::User, 1))?;
-    write_yes(rt, "open", queues.open_for(ApcNo(5)))?;
-    write_yes(rt, "insert", queues.insert(ApcNo(5), ApcKind::User, 2))?;
-    write_pick(rt, "first", queues.user_first())?;
-    write_yes(rt, "remove", queues.remove(ApcNo(5)))?;
-    write_yes(rt, "remove", queues.remove(ApcNo(5)))?;
-    write_yes(rt, "insert", queues.insert(ApcNo(5), ApcKind::User, 3))?;
-    write_pick(rt, "first", queues.user_first())
+    write(rt, "open", &queues.open_for(ApcNo(5)))?;
+    write(rt, "insert", &queues.insert(ApcNo(5), ApcKind::User, 1))?;
+    write(rt, "open", &queues.open_for(ApcNo(5)))?;
+    write(rt, "insert", &queues.insert(ApcNo(5), ApcKind::User, 2))?;
+    write(rt, "first", &queues.user_first())?;
+    write(rt, "remove", &queues.remove(ApcNo(5)))?;
+    write(rt, "remove", &queues.remove(ApcNo(5)))?;
+    write(rt, "insert", &queues.insert(ApcNo(5), ApcKind::User, 3))?;
+    write(rt, "first", &queues.user_first())
 }
 
 fn closed_doors(rt: HostRuntime, queues: &mut ApcQueues) -> io::Result<()> {
-    write_yes(rt, "insert 0", queues.insert(ApcNo(0), ApcKind::User, 4))?;
-    write_yes(rt, "insert 1", queues.insert(ApcNo(1), ApcKind::User, 5))?;
+    write(rt, "insert 0", &queues.insert(ApcNo(0), ApcKind::User, 4))?;
+    write(rt, "insert 1", &queues.insert(ApcNo(1), ApcKind::User, 5))?;
     queues.close_doors();
-    write_yes(rt, "insert 2", queues.insert(ApcNo(2), ApcKind::User, 8))?;
+    write(rt, "insert 2", &queues.insert(ApcNo(2), ApcKind::User, 8))?;
     write_flush(rt, queues)?;
     write_flush(rt, queues)?;
     write_flush(rt, queues)

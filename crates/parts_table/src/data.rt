@@ -1,6 +1,6 @@
 //! The data of the machine: which small scripts fit, what a script says of its things, and the
 //! small questions about the data.
-use crate::writing::{write_number, write_yes};
+use crate::writing::{no_such_case, write, write_pair};
 use nt_event::{
     ApcDecl, ApcKind, ApcNo, Body, Command, CpuNo, DpcDecl, DpcNo, Isr, Items, Level, LockNo, Mode,
     Refusal, Regions, Reply, Routine, RoutineNo, ScheduleKind, Script, ThreadDecl, ThreadNo,
@@ -20,7 +20,7 @@ pub fn answer(rt: HostRuntime, case: &str) -> io::Result<()> {
         "refusals have their numbers and names" => numbers(rt),
         "items are kept in order" => items(rt),
         "replies, commands, kinds, regions and classes" => questions(rt),
-        _ => println!(rt; "  no such case"),
+        _ => no_such_case(rt),
     }
 }
 
@@ -45,7 +45,9 @@ fn script(alloc: Global, commands: Vec<Command>) -> Result<Script, AllocError> {
     let routine = Routine {
         commands: Items::from_vec(commands),
     };
-    script_of(alloc, vec![in alloc; routine]?)
+    let mut routines = Vec::new(alloc);
+    routines.push(routine)?;
+    script_of(alloc, routines)
 }
 
 /// The script of these routines, of which there is one.
@@ -114,7 +116,7 @@ fn command_fits(alloc: Global, command: Command) -> Result<bool, AllocError> {
 
 fn write_fits(rt: HostRuntime, command: Command) -> io::Result<()> {
     let fits = command_fits(rt.alloc(), command)?;
-    println!(rt; "  {command:?} {fits}")
+    write_pair(rt, &command, &fits)
 }
 
 fn commands(rt: HostRuntime) -> io::Result<()> {
@@ -135,22 +137,17 @@ fn commands(rt: HostRuntime) -> io::Result<()> {
     write_fits(rt, Command::Note(4_294_967_295))
 }
 
-/// Writes the interrupt routine of a processor at a level, if it has one.
-fn write_routine(rt: HostRuntime, of: &str, routine: Option<RoutineNo>) -> io::Result<()> {
-    println!(rt; "  {of} {routine:?}")
-}
-
 fn pairs(rt: HostRuntime) -> io::Result<()> {
     let mut made = script(rt.alloc(), Vec::new(rt.alloc()))?;
     write_pairs(rt, &mut made)
 }
 
 fn write_pairs(rt: HostRuntime, made: &mut Script) -> io::Result<()> {
-    write_yes(rt, "fits", made.fits())?;
-    write_routine(rt, "of level 5", made.isr_of(CpuNo(1), level(5)))?;
-    write_routine(rt, "of the clock", made.isr_of(CpuNo(1), Level::CLOCK))?;
+    write(rt, "fits", &made.fits())?;
+    write(rt, "of level 5", &made.isr_of(CpuNo(1), level(5)))?;
+    write(rt, "of the clock", &made.isr_of(CpuNo(1), Level::CLOCK))?;
     made.isrs.push(isr(0))?;
-    write_yes(rt, "with one pair twice", made.fits())
+    write(rt, "with one pair twice", &made.fits())
 }
 
 /// Whether the script with this APC fits.
@@ -188,13 +185,13 @@ fn write_things(rt: HostRuntime, made: &Script) -> io::Result<()> {
     if !made.fits() {
         return println!(rt; "  does not fit");
     }
-    write_number(rt, "threads", u64::from(made.thread_count()))?;
-    println!(rt; "  thread 0 on {:?}", made.cpu_of(ThreadNo(0)))?;
+    write(rt, "threads", &made.thread_count())?;
+    write(rt, "thread 0 on", &made.cpu_of(ThreadNo(0)))?;
     if made.apcs.len() == 1 {
-        println!(rt; "  apc 0 of {:?}", made.owner_of(ApcNo(0)))?;
+        write(rt, "apc 0 of", &made.owner_of(ApcNo(0)))?;
     }
-    println!(rt; "  apc 0 is {:?}", made.kind_of(ApcNo(0)))?;
-    println!(rt; "  timer 0 inserts {:?}", made.dpc_of(TimerNo(0)))?;
+    write(rt, "apc 0 is", &made.kind_of(ApcNo(0)))?;
+    write(rt, "timer 0 inserts", &made.dpc_of(TimerNo(0)))?;
     write_routines(rt, made)
 }
 
@@ -203,22 +200,18 @@ fn write_routines(rt: HostRuntime, made: &Script) -> io::Result<()> {
     let apc = Body::Apc(ApcNo(0), ApcKind::User);
     let device = Body::Int(level(5));
     let clock = Body::Int(Level::CLOCK);
-    write_routine(rt, "apc 0 runs down by", made.rundown_of(ApcNo(0)))?;
-    write_routine(rt, "kernel routine", made.routine_of(CpuNo(1), &apc, true))?;
-    write_routine(
+    write(rt, "apc 0 runs down by", &made.rundown_of(ApcNo(0)))?;
+    write(rt, "kernel routine", &made.routine_of(CpuNo(1), &apc, true))?;
+    write(
         rt,
         "device routine",
-        made.routine_of(CpuNo(1), &device, false),
+        &made.routine_of(CpuNo(1), &device, false),
     )?;
-    write_routine(
+    write(
         rt,
         "clock routine",
-        made.routine_of(CpuNo(1), &clock, false),
+        &made.routine_of(CpuNo(1), &clock, false),
     )
-}
-
-fn write_next(rt: HostRuntime, at: &str, command: Option<Command>) -> io::Result<()> {
-    println!(rt; "  {at} {command:?}")
 }
 
 fn next_commands(rt: HostRuntime) -> io::Result<()> {
@@ -233,9 +226,9 @@ fn two_notes(alloc: Global) -> Result<Script, AllocError> {
 
 fn write_commands(rt: HostRuntime, made: &Script) -> io::Result<()> {
     let base = Body::Base(ThreadNo(0));
-    write_next(rt, "at 0", made.command_at(CpuNo(1), &base, false, 0))?;
-    write_next(rt, "at 1", made.command_at(CpuNo(1), &base, false, 1))?;
-    write_next(rt, "at 2", made.command_at(CpuNo(1), &base, false, 2))
+    write(rt, "at 0", &made.command_at(CpuNo(1), &base, false, 0))?;
+    write(rt, "at 1", &made.command_at(CpuNo(1), &base, false, 1))?;
+    write(rt, "at 2", &made.command_at(CpuNo(1), &base, false, 2))
 }
 
 fn write_refusal(rt: HostRuntime, refusal: Refusal) -> io::Result<()> {
@@ -256,7 +249,7 @@ fn numbers(rt: HostRuntime) -> io::Result<()> {
 }
 
 fn write_items(rt: HostRuntime, items: &[u32]) -> io::Result<()> {
-    println!(rt; "  {} {items:?}", items.len())
+    write_pair(rt, &items.len(), &items)
 }
 
 /// Items of two numbers.
@@ -273,7 +266,7 @@ fn items(rt: HostRuntime) -> io::Result<()> {
 }
 
 fn fill(rt: HostRuntime, items: &mut Items<u32>) -> io::Result<()> {
-    write_yes(rt, "empty", items.is_empty())?;
+    write(rt, "empty", &items.is_empty())?;
     two_items(items)?;
     write_items(rt, items.as_slice())
 }
@@ -291,15 +284,11 @@ fn write_reply(rt: HostRuntime, reply: Reply) -> io::Result<()> {
         reply.is_refused(),
         reply.is_spin(),
     );
-    println!(rt; "  {reply:?} {is:?}")
+    write_pair(rt, &reply, &is)
 }
 
 fn write_lane(rt: HostRuntime, command: Command) -> io::Result<()> {
     println!(rt; "  {command:?} needs a lane {}", command.needs_lane())
-}
-
-fn write_two(rt: HostRuntime, first: bool, second: bool) -> io::Result<()> {
-    println!(rt; "  {first} {second}")
 }
 
 fn questions(rt: HostRuntime) -> io::Result<()> {
@@ -312,14 +301,14 @@ fn questions(rt: HostRuntime) -> io::Result<()> {
     write_lane(rt, Command::Yield)?;
     write_lane(rt, Command::EnterCrit)?;
     write_lane(rt, Command::StartWait(Mode::User, true))?;
-    write_two(rt, ApcKind::Normal.is_kernel(), ApcKind::User.is_kernel())?;
+    write_pair(rt, &ApcKind::Normal.is_kernel(), &ApcKind::User.is_kernel())?;
     let before = Regions {
         crit: 1,
         guard: 0,
         busy: false,
     };
     let now = Regions { crit: 0, ..before };
-    write_two(rt, now.came_to_0(&before), before.came_to_0(&now))?;
+    write_pair(rt, &now.came_to_0(&before), &before.came_to_0(&now))?;
     println!(rt;
         "  {} {} {} {}",
         class::is_used(11),

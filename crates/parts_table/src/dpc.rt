@@ -4,7 +4,7 @@ ghost use Rattle.std.specs.Prelude.{◌≡◌, IfOk};
 ghost use Rattle.nt_event.specs.Numbers.{cpu};
 ghost use Rattle.nt_dpc.specs.Queues.{new_queue, with_idle};
 
-use crate::writing::{write_number, write_yes};
+use crate::writing::{no_such_case, write, write_both};
 use nt_dpc::{DpcObject, DpcQueue, Inserted};
 use nt_event::{CpuNo, DpcNo, Importance, Part};
 use std::alloc::{AllocError, Global};
@@ -48,7 +48,7 @@ fn make_calls(rt: HostRuntime, case: &str, queue: &mut DpcQueue) -> io::Result<(
         "an object is inserted once and removed once" => once_in_and_once_out(rt, queue),
         "a threaded dpc stands in its own part" => a_threaded_insert(rt, queue),
         "a target decides the queue and a rest the idle mark" => targets_and_rests(rt, queue),
-        _ => println!(rt; "  no such case"),
+        _ => no_such_case(rt),
     }
 }
 
@@ -104,16 +104,6 @@ fn ordinary_inserts_ask(rt: HostRuntime) -> io::Result<()> {
     write_asks(rt, Importance::High, CpuNo(1))
 }
 
-/// Writes the first of a part, if any.
-fn write_first(rt: HostRuntime, call: &str, first: Option<(DpcNo, u64)>) -> io::Result<()> {
-    println!(rt; "  {call} {first:?}")
-}
-
-/// Writes what an insert answers, or would answer.
-fn write_insert(rt: HostRuntime, call: &str, inserted: Inserted) -> io::Result<()> {
-    println!(rt; "  {call} {inserted:?}")
-}
-
 fn high_inserts_come_first(rt: HostRuntime, queue: &mut DpcQueue) -> io::Result<()>
     requires { queue.old ≡ new_queue (cpu 0) 4 4 }
 {
@@ -128,15 +118,15 @@ fn high_inserts_come_first(rt: HostRuntime, queue: &mut DpcQueue) -> io::Result<
     queue.insert(&mut b, OWN, 6);
     queue.insert(&mut c, OWN, 7);
     queue.insert(&mut e, OWN, 8);
-    write_first(rt, "first", queue.first(Part::Ordinary))?;
-    write_number(rt, "take", queue.take(Part::Ordinary, &mut c))?;
-    write_first(rt, "first", queue.first(Part::Ordinary))?;
-    write_number(rt, "take", queue.take(Part::Ordinary, &mut b))?;
-    write_first(rt, "first", queue.first(Part::Ordinary))?;
-    write_number(rt, "take", queue.take(Part::Ordinary, &mut a))?;
-    write_first(rt, "first", queue.first(Part::Ordinary))?;
-    write_number(rt, "take", queue.take(Part::Ordinary, &mut e))?;
-    write_first(rt, "first", queue.first(Part::Ordinary))
+    write(rt, "first", &queue.first(Part::Ordinary))?;
+    write(rt, "take", &queue.take(Part::Ordinary, &mut c))?;
+    write(rt, "first", &queue.first(Part::Ordinary))?;
+    write(rt, "take", &queue.take(Part::Ordinary, &mut b))?;
+    write(rt, "first", &queue.first(Part::Ordinary))?;
+    write(rt, "take", &queue.take(Part::Ordinary, &mut a))?;
+    write(rt, "first", &queue.first(Part::Ordinary))?;
+    write(rt, "take", &queue.take(Part::Ordinary, &mut e))?;
+    write(rt, "first", &queue.first(Part::Ordinary))
 }
 
 fn a_deep_insert_asks(rt: HostRuntime, queue: &mut DpcQueue) -> io::Result<()>
@@ -148,38 +138,45 @@ fn a_deep_insert_asks(rt: HostRuntime, queue: &mut DpcQueue) -> io::Result<()>
     first.set_importance(Importance::Low);
     second.set_importance(Importance::Low);
     third.set_importance(Importance::Low);
-    write_insert(rt, "insert", queue.insert(&mut first, OWN, 6))?;
-    write_insert(rt, "insert", queue.insert(&mut second, OWN, 7))?;
-    write_insert(rt, "answer", queue.answer(&third, OWN))?;
-    write_insert(rt, "insert", queue.insert(&mut third, OWN, 8))
-}
-
-/// Writes where the object is, and whether the queue has it.
-fn write_standing(rt: HostRuntime, standing: Option<CpuNo>, held: bool) -> io::Result<()> {
-    println!(rt; "  standing {standing:?}, held {held}")
+    write(rt, "insert", &queue.insert(&mut first, OWN, 6))?;
+    write(rt, "insert", &queue.insert(&mut second, OWN, 7))?;
+    write(rt, "answer", &queue.answer(&third, OWN))?;
+    write(rt, "insert", &queue.insert(&mut third, OWN, 8))
 }
 
 fn once_in_and_once_out(rt: HostRuntime, queue: &mut DpcQueue) -> io::Result<()>
     requires { queue.old ≡ new_queue (cpu 0) 4 4 }
 {
     let mut d = DpcObject::new(DpcNo(0), false);
-    write_insert(rt, "insert", queue.insert(&mut d, OWN, 2))?;
-    write_standing(rt, d.standing(), queue.holds(DpcNo(0)))?;
-    write_insert(rt, "answer", queue.answer(&d, OWN))?;
-    write_insert(rt, "insert", queue.insert(&mut d, OWN, 3))?;
-    write_yes(rt, "remove", queue.remove(&mut d))?;
-    write_standing(rt, d.standing(), queue.holds(DpcNo(0)))?;
-    write_yes(rt, "remove", queue.remove(&mut d))
+    write(rt, "insert", &queue.insert(&mut d, OWN, 2))?;
+    write_both(
+        rt,
+        "standing",
+        &d.standing(),
+        "held",
+        &queue.holds(DpcNo(0)),
+    )?;
+    write(rt, "answer", &queue.answer(&d, OWN))?;
+    write(rt, "insert", &queue.insert(&mut d, OWN, 3))?;
+    write(rt, "remove", &queue.remove(&mut d))?;
+    write_both(
+        rt,
+        "standing",
+        &d.standing(),
+        "held",
+        &queue.holds(DpcNo(0)),
+    )?;
+    write(rt, "remove", &queue.remove(&mut d))
 }
 
 fn a_threaded_insert(rt: HostRuntime, queue: &mut DpcQueue) -> io::Result<()>
     requires { queue.old ≡ new_queue (cpu 0) 4 4 }
 {
     let mut w = DpcObject::new(DpcNo(0), true);
-    write_insert(rt, "insert", queue.insert(&mut w, OWN, 2))?;
-    write_first(rt, "first ordinary", queue.first(Part::Ordinary))?;
-    write_first(rt, "first threaded", queue.first(Part::Threaded))?;
-    write_number(rt, "take", queue.take(Part::Threaded, &mut w))
+    write(rt, "insert", &queue.insert(&mut w, OWN, 2))?;
+    write(rt, "first ordinary", &queue.first(Part::Ordinary))?;
+    write(rt, "first threaded", &queue.first(Part::Threaded))?;
+    write(rt, "take", &queue.take(Part::Threaded, &mut w))
 }
 
 /// Writes whose queue an insert is for.
@@ -217,9 +214,15 @@ fn firsts_are_taken(rt: HostRuntime, queue: &mut DpcQueue) -> io::Result<()>
     queue.insert(&mut a, OWN, 5);
     queue.insert(&mut b, OWN, 6);
     let mut objects = [a, b];
-    write_first(rt, "take", queue.take_first(Part::Ordinary, &mut objects))?;
-    write_first(rt, "take", queue.take_first(Part::Threaded, &mut objects))?;
-    write_first(rt, "take", queue.take_first(Part::Ordinary, &mut objects))?;
-    write_first(rt, "take", queue.take_first(Part::Ordinary, &mut objects))?;
-    write_standing(rt, objects[1].standing(), queue.holds(DpcNo(1)))
+    write(rt, "take", &queue.take_first(Part::Ordinary, &mut objects))?;
+    write(rt, "take", &queue.take_first(Part::Threaded, &mut objects))?;
+    write(rt, "take", &queue.take_first(Part::Ordinary, &mut objects))?;
+    write(rt, "take", &queue.take_first(Part::Ordinary, &mut objects))?;
+    write_both(
+        rt,
+        "standing",
+        &objects[1].standing(),
+        "held",
+        &queue.holds(DpcNo(1)),
+    )
 }

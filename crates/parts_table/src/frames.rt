@@ -3,6 +3,7 @@ ghost use Rattle.std.specs.Prelude.{◌≡◌};
 ghost use Rattle.nt_frame.specs.Calls.{MayCallAll};
 ghost use Rattle.nt_frame.specs.Changes.{no_frames};
 
+use crate::writing::{no_such_case, write, write_both};
 use nt_event::{
     Again, ApcKind, ApcNo, Body, Command, CpuNo, DpcNo, LockNo, Mode, Region, Regions, Stand,
     ThreadNo,
@@ -32,7 +33,7 @@ fn make_calls(rt: HostRuntime, case: &str, frames: &mut Frames) -> io::Result<()
         "routines over a thread" => routines_over_a_thread(rt, frames),
         "threads come and go" => threads_come_and_go(rt, frames),
         "locks of a thread" => locks_of_a_thread(rt, frames),
-        _ => println!(rt; "  no such case"),
+        _ => no_such_case(rt),
     }
 }
 
@@ -77,16 +78,16 @@ fn write_answers(rt: HostRuntime, calls: &[FrameCall], answers: &[FrameAnswer]) 
 
 /// Writes the level, and that to which it goes back.
 fn write_levels(rt: HostRuntime, level: Level, after: Level) -> io::Result<()> {
-    println!(rt; "  level {}, then {}", level.number(), after.number())
+    write_both(rt, "level", &level.number(), "then", &after.number())
 }
 
 fn write_running(rt: HostRuntime, running: Option<ThreadNo>) -> io::Result<()> {
-    println!(rt; "  running {running:?}")
+    write(rt, "running", &running)
 }
 
 /// Writes whether the own part has frames, and whether the running thread's part has the innermost.
 fn write_part(rt: HostRuntime, own: bool, thread: bool) -> io::Result<()> {
-    println!(rt; "  own part {own}, thread's part {thread}")
+    write_both(rt, "own part", &own, "thread's part", &thread)
 }
 
 fn write_regions(rt: HostRuntime, regions: Regions, then: &str) -> io::Result<()> {
@@ -94,7 +95,7 @@ fn write_regions(rt: HostRuntime, regions: Regions, then: &str) -> io::Result<()
 }
 
 fn write_innermost(rt: HostRuntime, frame: Option<FrameView>) -> io::Result<()> {
-    println!(rt; "  innermost {frame:?}")
+    write(rt, "innermost", &frame)
 }
 
 /// Writes where a processor is that owes a sweep.
@@ -129,7 +130,7 @@ fn write_questions(rt: HostRuntime, frames: &Frames) -> io::Result<()> {
 /// Writes which lock the innermost routine acquired last of those that it holds, and on which it
 /// spins.
 fn write_locks(rt: HostRuntime, held: Option<LockNo>, spun: Option<LockNo>) -> io::Result<()> {
-    println!(rt; "  holds {held:?}, spins on {spun:?}")
+    write_both(rt, "holds", &held, "spins on", &spun)
 }
 
 /// Writes why the command would be refused, if it would.

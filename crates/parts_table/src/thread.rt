@@ -1,5 +1,5 @@
 //! The state of a thread: each call with its answer, and the tests at a wait as a table.
-use crate::writing::{write_number, write_pick, write_yes};
+use crate::writing::{no_such_case, write, write_both};
 use nt_thread::{
     AlertAnswer, ApcAnswer, ApcKind, ApcNo, Level, Mode, Pick, Regions, ThreadState, WaitAnswer,
     WaitSpec,
@@ -36,7 +36,7 @@ fn make_calls(rt: HostRuntime, case: &str, thread: &mut ThreadState) -> io::Resu
         "a user apc ends an alertable user wait" => a_user_apc(rt, thread),
         "a wait that a kernel apc interrupts is taken up again" => an_interrupted_wait(rt, thread),
         "a thread gives way and runs down" => a_rundown(rt, thread),
-        _ => println!(rt; "  no such case"),
+        _ => no_such_case(rt),
     }
 }
 
@@ -191,62 +191,46 @@ fn tests_at_a_wait(rt: HostRuntime) -> io::Result<()> {
     write_tests(rt, "from the first test", ALL, Mode::Kernel, false)
 }
 
-fn write_wait(rt: HostRuntime, answer: WaitAnswer, then: &str) -> io::Result<()> {
-    println!(rt; "  wait {answer:?}{then}")
-}
-
-fn write_apc(rt: HostRuntime, call: &str, answer: ApcAnswer) -> io::Result<()> {
-    println!(rt; "  {call} {answer:?}")
-}
-
-fn write_alert(rt: HostRuntime, answer: AlertAnswer) -> io::Result<()> {
-    println!(rt; "  alert {answer:?}")
-}
-
-/// Writes the status of a wait that ended, if one did.
-fn write_status(rt: HostRuntime, call: &str, status: Option<u32>) -> io::Result<()> {
-    println!(rt; "  {call} {status:?}")
+/// Writes what a wait answered once an APC was taken.
+fn write_taken(rt: HostRuntime, answer: WaitAnswer) -> io::Result<()> {
+    println!(rt; "  wait {answer:?} once it is taken")
 }
 
 /// Resumes the thread and writes the status, if it is ready.
 fn resumed(rt: HostRuntime, thread: &mut ThreadState) -> io::Result<()> {
     if thread.is_ready() {
-        write_status(rt, "resume", thread.resume())?;
+        write(rt, "resume", &thread.resume())?;
     }
     Ok(())
 }
 
 fn a_mark_ends_a_wait(rt: HostRuntime, thread: &mut ThreadState) -> io::Result<()> {
-    write_apc(rt, "apc", thread.apc(ApcNo(1), ApcKind::User, 2))?;
-    write_pick(rt, "user due", thread.user_due())?;
-    write_yes(rt, "test alert", thread.test_alert(Mode::User))?;
-    write_pick(rt, "user due", thread.user_due())?;
+    write(rt, "apc", &thread.apc(ApcNo(1), ApcKind::User, 2))?;
+    write(rt, "user due", &thread.user_due())?;
+    write(rt, "test alert", &thread.test_alert(Mode::User))?;
+    write(rt, "user due", &thread.user_due())?;
     let plain = wait(Mode::User, false);
-    write_wait(rt, thread.wait(plain, FREE, Level::PASSIVE), "")?;
+    write(rt, "wait", &thread.wait(plain, FREE, Level::PASSIVE))?;
     thread.take(Pick {
         apc: ApcNo(1),
         kind: ApcKind::User,
         number: 2,
     });
-    write_wait(
-        rt,
-        thread.wait(plain, FREE, Level::PASSIVE),
-        " once it is taken",
-    )
+    write_taken(rt, thread.wait(plain, FREE, Level::PASSIVE))
 }
 
 fn a_release(rt: HostRuntime, thread: &mut ThreadState) -> io::Result<()> {
     let plain = wait(Mode::Kernel, false);
-    write_wait(rt, thread.wait(plain, FREE, Level::APC), "")?;
-    write_number(rt, "level", u64::from(thread.level().number()))?;
+    write(rt, "wait", &thread.wait(plain, FREE, Level::APC))?;
+    write(rt, "level", &thread.level().number())?;
     write_endings(rt, thread)?;
-    write_yes(rt, "end delay", thread.end_delay(9))?;
-    write_status(rt, "status", thread.status())?;
-    write_yes(rt, "release", thread.release())?;
-    write_status(rt, "status", thread.status())?;
-    write_yes(rt, "ready", thread.is_ready())?;
+    write(rt, "end delay", &thread.end_delay(9))?;
+    write(rt, "status", &thread.status())?;
+    write(rt, "release", &thread.release())?;
+    write(rt, "status", &thread.status())?;
+    write(rt, "ready", &thread.is_ready())?;
     resumed(rt, thread)?;
-    write_yes(rt, "running", thread.is_running())
+    write(rt, "running", &thread.is_running())
 }
 
 fn a_delay(rt: HostRuntime, thread: &mut ThreadState) -> io::Result<()> {
@@ -254,104 +238,107 @@ fn a_delay(rt: HostRuntime, thread: &mut ThreadState) -> io::Result<()> {
         reached: Some(false),
         ..wait(Mode::Kernel, false)
     };
-    write_wait(rt, thread.wait(delay, FREE, Level::PASSIVE), "")?;
+    write(rt, "wait", &thread.wait(delay, FREE, Level::PASSIVE))?;
     write_endings(rt, thread)?;
-    write_yes(rt, "release", thread.release())?;
-    write_yes(rt, "end delay 8", thread.end_delay(8))?;
-    write_yes(rt, "end delay 9", thread.end_delay(9))?;
-    write_yes(rt, "end delay 9", thread.end_delay(9))
+    write(rt, "release", &thread.release())?;
+    write(rt, "end delay 8", &thread.end_delay(8))?;
+    write(rt, "end delay 9", &thread.end_delay(9))?;
+    write(rt, "end delay 9", &thread.end_delay(9))
 }
 
 fn an_alert(rt: HostRuntime, thread: &mut ThreadState) -> io::Result<()> {
     let alertable = wait(Mode::User, true);
-    write_wait(rt, thread.wait(alertable, FREE, Level::PASSIVE), "")?;
+    write(rt, "wait", &thread.wait(alertable, FREE, Level::PASSIVE))?;
     write_endings(rt, thread)?;
-    write_alert(rt, thread.alert(Mode::User))?;
-    write_yes(rt, "was alerted", thread.was_alerted(Mode::User))?;
-    write_alert(rt, thread.alert(Mode::User))?;
-    write_yes(rt, "was alerted", thread.was_alerted(Mode::User))?;
-    write_alert(rt, thread.alert(Mode::User))?;
-    write_yes(rt, "test alert", thread.test_alert(Mode::User))?;
-    write_yes(rt, "test alert", thread.test_alert(Mode::User))
-}
-
-/// Writes whether the thread takes the APC, and the user APC that is first.
-fn write_taking(rt: HostRuntime, takes: bool, first: Option<Pick>) -> io::Result<()> {
-    println!(rt; "  takes {takes}, first {first:?}")
+    write(rt, "alert", &thread.alert(Mode::User))?;
+    write(rt, "was alerted", &thread.was_alerted(Mode::User))?;
+    write(rt, "alert", &thread.alert(Mode::User))?;
+    write(rt, "was alerted", &thread.was_alerted(Mode::User))?;
+    write(rt, "alert", &thread.alert(Mode::User))?;
+    write(rt, "test alert", &thread.test_alert(Mode::User))?;
+    write(rt, "test alert", &thread.test_alert(Mode::User))
 }
 
 fn a_user_apc(rt: HostRuntime, thread: &mut ThreadState) -> io::Result<()> {
     let alertable = wait(Mode::User, true);
-    write_wait(rt, thread.wait(alertable, FREE, Level::PASSIVE), "")?;
-    write_taking(rt, thread.takes(ApcNo(1)), thread.user_first())?;
-    write_apc(rt, "apc answer", thread.apc_answer(ApcNo(1), ApcKind::User))?;
-    write_apc(rt, "apc", thread.apc(ApcNo(1), ApcKind::User, 20))?;
-    write_taking(rt, thread.takes(ApcNo(1)), thread.user_first())?;
-    write_yes(rt, "unapc", thread.unapc(ApcNo(1)))?;
-    write_yes(rt, "unapc", thread.unapc(ApcNo(1)))
+    write(rt, "wait", &thread.wait(alertable, FREE, Level::PASSIVE))?;
+    write_both(
+        rt,
+        "takes",
+        &thread.takes(ApcNo(1)),
+        "first",
+        &thread.user_first(),
+    )?;
+    write(
+        rt,
+        "apc answer",
+        &thread.apc_answer(ApcNo(1), ApcKind::User),
+    )?;
+    write(rt, "apc", &thread.apc(ApcNo(1), ApcKind::User, 20))?;
+    write_both(
+        rt,
+        "takes",
+        &thread.takes(ApcNo(1)),
+        "first",
+        &thread.user_first(),
+    )?;
+    write(rt, "unapc", &thread.unapc(ApcNo(1)))?;
+    write(rt, "unapc", &thread.unapc(ApcNo(1)))
 }
 
 /// A normal kernel APC waits for the end of a critical region, and a special one ends the wait.
 fn an_interrupted_wait(rt: HostRuntime, thread: &mut ThreadState) -> io::Result<()> {
     let spec = wait(Mode::Kernel, false);
     let critical = Regions { crit: 1, ..FREE };
-    write_wait(rt, thread.wait(spec, critical, Level::PASSIVE), "")?;
-    write_apc(rt, "apc 3", thread.apc(ApcNo(3), ApcKind::Normal, 11))?;
-    write_apc(rt, "apc 0", thread.apc(ApcNo(0), ApcKind::Special, 12))?;
-    write_yes(rt, "has kernel", thread.has_kernel())?;
+    write(rt, "wait", &thread.wait(spec, critical, Level::PASSIVE))?;
+    write(rt, "apc 3", &thread.apc(ApcNo(3), ApcKind::Normal, 11))?;
+    write(rt, "apc 0", &thread.apc(ApcNo(0), ApcKind::Special, 12))?;
+    write(rt, "has kernel", &thread.has_kernel())?;
     resumed(rt, thread)?;
-    write_pick(
+    write(
         rt,
         "deliverable",
-        thread.deliverable(critical, Level::PASSIVE),
+        &thread.deliverable(critical, Level::PASSIVE),
     )?;
     thread.take(Pick {
         apc: ApcNo(0),
         kind: ApcKind::Special,
         number: 12,
     });
-    write_wait(
-        rt,
-        thread.wait(spec, critical, Level::PASSIVE),
-        " once it is taken",
-    )?;
-    write_yes(rt, "release", thread.release())
-}
-
-/// Writes the user APC that is flushed, if there was one.
-fn write_flush(rt: HostRuntime, flushed: Option<(ApcNo, u64)>) -> io::Result<()> {
-    println!(rt; "  flush {flushed:?}")
-}
-
-/// Writes whether the thread is gone, and whether it leaves.
-fn write_gone(rt: HostRuntime, gone: bool, leaving: bool) -> io::Result<()> {
-    println!(rt; "  gone {gone}, leaving {leaving}")
+    write_taken(rt, thread.wait(spec, critical, Level::PASSIVE))?;
+    write(rt, "release", &thread.release())
 }
 
 /// What is left of a thread once its base routine has ended.
 fn a_rundown(rt: HostRuntime, thread: &mut ThreadState) -> io::Result<()> {
     thread.give_way(Level::APC);
-    write_number(rt, "level", u64::from(thread.level().number()))?;
+    write(rt, "level", &thread.level().number())?;
     resumed(rt, thread)?;
-    write_apc(rt, "apc 1", thread.apc(ApcNo(1), ApcKind::User, 4))?;
-    write_apc(rt, "apc 2", thread.apc(ApcNo(2), ApcKind::User, 5))?;
+    write(rt, "apc 1", &thread.apc(ApcNo(1), ApcKind::User, 4))?;
+    write(rt, "apc 2", &thread.apc(ApcNo(2), ApcKind::User, 5))?;
     thread.leave();
-    write_yes(rt, "leaving", thread.is_leaving())?;
-    write_apc(rt, "apc 3", thread.apc(ApcNo(3), ApcKind::User, 8))?;
+    write(rt, "leaving", &thread.is_leaving())?;
+    write(rt, "apc 3", &thread.apc(ApcNo(3), ApcKind::User, 8))?;
     run_down(rt, thread)
 }
 
 /// Flushes the thread that leaves, which is gone then.
 fn run_down(rt: HostRuntime, thread: &mut ThreadState) -> io::Result<()> {
-    write_flush(rt, thread.flush())?;
-    write_flush(rt, thread.flush())?;
+    write(rt, "flush", &thread.flush())?;
+    write(rt, "flush", &thread.flush())?;
     let last = thread.flush();
-    write_flush(rt, last)?;
+    write(rt, "flush", &last)?;
     if last.is_none() {
         thread.gone();
     }
-    write_gone(rt, thread.is_gone(), thread.is_leaving())?;
-    write_yes(rt, "release", thread.release())?;
-    write_alert(rt, thread.alert(Mode::Kernel))?;
-    write_alert(rt, thread.alert(Mode::Kernel))
+    write_both(
+        rt,
+        "gone",
+        &thread.is_gone(),
+        "leaving",
+        &thread.is_leaving(),
+    )?;
+    write(rt, "release", &thread.release())?;
+    write(rt, "alert", &thread.alert(Mode::Kernel))?;
+    write(rt, "alert", &thread.alert(Mode::Kernel))
 }

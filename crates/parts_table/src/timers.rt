@@ -2,7 +2,7 @@
 ghost use Rattle.std.specs.Prelude.{◌≡◌};
 ghost use Rattle.nt_timer.specs.Settings.{new_timers};
 
-use crate::writing::{write_number, write_yes};
+use crate::writing::{no_such_case, write};
 use nt_event::{ThreadNo, TimerKey, TimerNo};
 use nt_timer::{Expired, SetAnswer, TimerQueue};
 use std::io;
@@ -24,35 +24,35 @@ fn make_calls(rt: HostRuntime, case: &str, queue: &mut TimerQueue) -> io::Result
             a_late_periodic_timer(rt, queue)
         }
         "a delay replaces the one before" => a_second_delay(rt, queue),
-        _ => println!(rt; "  no such case"),
+        _ => no_such_case(rt),
     }
 }
 
 /// Writes the key that is due first, if any.
 pub(crate) fn write_first(rt: HostRuntime, queue: &TimerQueue) -> io::Result<()> {
-    println!(rt; "  first {:?}", queue.first_due())
+    write(rt, "first", &queue.first_due())
 }
 
 pub(crate) fn write_set(rt: HostRuntime, answer: SetAnswer) -> io::Result<()> {
-    println!(rt; "  set {answer:?}")
+    write(rt, "set", &answer)
 }
 
 pub(crate) fn write_expiry(rt: HostRuntime, expired: Expired) -> io::Result<()> {
-    println!(rt; "  expire {expired:?}")
+    write(rt, "expire", &expired)
 }
 
 fn set_and_cancelled(rt: HostRuntime, queue: &mut TimerQueue) -> io::Result<()>
     requires { queue.old ≡ new_timers 3 1 }
 {
     let t = TimerNo(0);
-    write_yes(rt, "is set", queue.is_set(t))?;
+    write(rt, "is set", &queue.is_set(t))?;
     write_set(rt, queue.set(t, 1, 0, 2))?;
-    write_yes(rt, "is set", queue.is_set(t))?;
+    write(rt, "is set", &queue.is_set(t))?;
     write_set(rt, queue.set(t, 0, 0, 3))?;
     write_first(rt, queue)?;
-    write_yes(rt, "cancel", queue.cancel(t))?;
-    write_yes(rt, "is set", queue.is_set(t))?;
-    write_yes(rt, "cancel", queue.cancel(t))?;
+    write(rt, "cancel", &queue.cancel(t))?;
+    write(rt, "is set", &queue.is_set(t))?;
+    write(rt, "cancel", &queue.cancel(t))?;
     write_first(rt, queue)
 }
 
@@ -67,7 +67,7 @@ fn due_keys_expire_in_order(rt: HostRuntime, queue: &mut TimerQueue) -> io::Resu
     queue.set(c, 9, 0, 2);
     write_first(rt, queue)?;
     queue.advance(5);
-    write_number(rt, "now", queue.now())?;
+    write(rt, "now", &queue.now())?;
     write_first(rt, queue)?;
     write_expiry(rt, queue.expire(TimerKey::Timer(b), 7))?;
     write_first(rt, queue)?;
@@ -75,7 +75,7 @@ fn due_keys_expire_in_order(rt: HostRuntime, queue: &mut TimerQueue) -> io::Resu
     write_first(rt, queue)?;
     write_expiry(rt, queue.expire(TimerKey::Timer(a), 9))?;
     write_first(rt, queue)?;
-    write_yes(rt, "is set", queue.is_set(c))
+    write(rt, "is set", &queue.is_set(c))
 }
 
 fn a_late_periodic_timer(rt: HostRuntime, queue: &mut TimerQueue) -> io::Result<()>

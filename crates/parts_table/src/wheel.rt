@@ -5,7 +5,7 @@ ghost use Rattle.std.specs.Prelude.{◌≡◌};
 ghost use Rattle.nt_timer.specs.Settings.{new_timers};
 
 use crate::timers::{write_expiry, write_first, write_set};
-use crate::writing::write_yes;
+use crate::writing::{no_such_case, write};
 use nt_event::{ThreadNo, TimerKey, TimerNo};
 use nt_timer::{Slot, TimerQueue};
 use std::io;
@@ -37,13 +37,13 @@ fn make_calls(rt: HostRuntime, case: &str, queue: &mut TimerQueue) -> io::Result
         "a key that is taken back or set anew leaves its slot" => set_anew(rt, queue),
         "a periodic timer stands anew" => periodic(rt, queue),
         "due times that are never reached" => never_reached(rt, queue),
-        _ => println!(rt; "  no such case"),
+        _ => no_such_case(rt),
     }
 }
 
 /// Writes where the key is in the wheel, if it is there.
 fn write_place(rt: HostRuntime, place: Option<Slot>) -> io::Result<()> {
-    println!(rt; "  place {place:?}")
+    write(rt, "place", &place)
 }
 
 fn down_the_levels(rt: HostRuntime, queue: &mut TimerQueue) -> io::Result<()>
@@ -99,9 +99,9 @@ fn keys_of_one_slot(rt: HostRuntime, queue: &mut TimerQueue) -> io::Result<()>
     write_first(rt, queue)?;
     write_expiry(rt, queue.expire(TimerKey::Delay(W), 5))?;
     write_first(rt, queue)?;
-    write_yes(rt, "cancel", queue.cancel(B))?;
+    write(rt, "cancel", &queue.cancel(B))?;
     write_first(rt, queue)?;
-    write_yes(rt, "cancel", queue.cancel(A))?;
+    write(rt, "cancel", &queue.cancel(A))?;
     write_first(rt, queue)
 }
 
@@ -114,11 +114,11 @@ fn keys_of_several_levels(rt: HostRuntime, queue: &mut TimerQueue) -> io::Result
     queue.set_delay(W, 4_000_000_000, 4);
     queue.advance(4_294_967_295);
     write_first(rt, queue)?;
-    write_yes(rt, "cancel", queue.cancel(C))?;
+    write(rt, "cancel", &queue.cancel(C))?;
     write_first(rt, queue)?;
-    write_yes(rt, "cancel", queue.cancel(B))?;
+    write(rt, "cancel", &queue.cancel(B))?;
     write_first(rt, queue)?;
-    write_yes(rt, "cancel", queue.cancel(A))?;
+    write(rt, "cancel", &queue.cancel(A))?;
     write_first(rt, queue)
 }
 
@@ -127,7 +127,7 @@ fn set_anew(rt: HostRuntime, queue: &mut TimerQueue) -> io::Result<()>
 {
     queue.set(A, 5, 0, 1);
     queue.set(B, 5, 0, 2);
-    write_yes(rt, "cancel", queue.cancel(A))?;
+    write(rt, "cancel", &queue.cancel(A))?;
     write_set(rt, queue.set(B, 200, 0, 3))?;
     queue.advance(5);
     write_first(rt, queue)?;

@@ -1,6 +1,5 @@
-//! Answers of several parts, each in a line of its own. A case asks, and one of these writes: a
-//! function that asks and formats many times over is expensive to prove.
-use nt_event::Pick;
+//! Answers of several parts, each in a line of its own. A case asks, and one of these writes: what
+//! formats is expensive to prove, so few functions do.
 use std::fmt::Debug;
 use std::io;
 
@@ -9,17 +8,23 @@ pub fn write<A: Debug>(rt: HostRuntime, call: &str, answer: &A) -> io::Result<()
     println!(rt; "  {call} {answer:?}")
 }
 
-/// Writes a call and whether it answered yes.
-pub fn write_yes(rt: HostRuntime, call: &str, yes: bool) -> io::Result<()> {
-    println!(rt; "  {call} {yes}")
+/// Writes two calls and their answers.
+pub fn write_both<A: Debug, B: Debug>(
+    rt: HostRuntime,
+    first: &str,
+    answer: &A,
+    second: &str,
+    other: &B,
+) -> io::Result<()> {
+    println!(rt; "  {first} {answer:?}, {second} {other:?}")
 }
 
-/// Writes a call and the number that it answered.
-pub fn write_number(rt: HostRuntime, call: &str, number: u64) -> io::Result<()> {
-    println!(rt; "  {call} {number}")
+/// Writes two values.
+pub fn write_pair<A: Debug, B: Debug>(rt: HostRuntime, first: &A, second: &B) -> io::Result<()> {
+    println!(rt; "  {first:?} {second:?}")
 }
 
-/// Writes a call and the APC that it answered, if any.
-pub fn write_pick(rt: HostRuntime, call: &str, pick: Option<Pick>) -> io::Result<()> {
-    println!(rt; "  {call} {pick:?}")
+/// Writes that there is no such case.
+pub fn no_such_case(rt: HostRuntime) -> io::Result<()> {
+    println!(rt; "  no such case")
 }

@@ -1,5 +1,5 @@
 //! The APC queues of a thread.
-use crate::writing::write;
+use crate::writing::{no_such_case, write};
 use nt_apc::{ApcKind, ApcNo, ApcQueues, Pick};
 use std::io;
 
@@ -18,7 +18,7 @@ fn make_calls(rt: HostRuntime, case: &str, queues: &mut ApcQueues) -> io::Result
         "doors are closed twice" => closed_twice(rt, queues),
         "an object comes back as another kind" => another_kind(rt, queues),
         "numbers of inserts fall" => numbers_fall(rt, queues),
-        _ => println!(rt; "  no such case"),
+        _ => no_such_case(rt),
     }
 }
 

@@ -3,7 +3,7 @@ ghost use Rattle.std.specs.Prelude.{◌≡◌};
 ghost use Rattle.nt_event.specs.Numbers.{cpu};
 ghost use Rattle.nt_dpc.specs.Queues.{new_queue};
 
-use crate::writing::write;
+use crate::writing::{no_such_case, write};
 use nt_dpc::{DpcObject, DpcQueue};
 use nt_event::{CpuNo, DpcNo, Part};
 use std::io;
@@ -43,7 +43,7 @@ fn make_calls(
         "an object is removed once it is taken" => removed_once_taken(rt, own),
         "numbers of inserts fall" => numbers_fall(rt, own),
         "a processor rests twice and runs twice" => rests_twice(rt, own),
-        _ => println!(rt; "  no such case"),
+        _ => no_such_case(rt),
     }
 }
 

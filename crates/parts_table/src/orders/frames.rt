@@ -4,6 +4,7 @@ ghost use Rattle.std.specs.Prelude.{◌≡◌};
 ghost use Rattle.nt_frame.specs.Changes.{no_frames};
 
 use crate::frames::write_calls;
+use crate::writing::no_such_case;
 use nt_event::{ApcKind, ApcNo, Body, CpuNo, DpcNo, Level, Region, ThreadNo};
 use nt_frame::{FrameCall, Frames};
 use std::io;
@@ -28,7 +29,7 @@ fn make_calls(rt: HostRuntime, case: &str, frames: &mut Frames) -> io::Result<()
         "threads are taken up and off under an interrupt" => under_an_interrupt(rt, frames)?,
         "a thread that is gone is taken up anew" => taken_up_anew(rt, frames)?,
         "a thread that leaves raises its level" => raised_in_leaving(rt, frames)?,
-        _ => println!(rt; "  no such case")?,
+        _ => no_such_case(rt)?,
     }
     write_stand(rt, frames)
 }

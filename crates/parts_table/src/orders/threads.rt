@@ -1,5 +1,5 @@
 //! The state of a thread, which is ready and has not run.
-use crate::writing::write;
+use crate::writing::{no_such_case, write};
 use nt_thread::{ApcKind, ApcNo, Level, Mode, Pick, Regions, ThreadState, WaitAnswer, WaitSpec};
 use std::io;
 
@@ -49,7 +49,7 @@ fn make_calls(rt: HostRuntime, case: &str, thread: &mut ThreadState) -> io::Resu
         "an apc is removed that was never inserted" => never_inserted(rt, thread),
         "a thread leaves twice" => leaves_twice(rt, thread),
         "a thread is gone that never left" => gone_unleft(rt, thread),
-        _ => println!(rt; "  no such case"),
+        _ => no_such_case(rt),
     }
 }
 

@@ -2,7 +2,7 @@
 ghost use Rattle.std.specs.Prelude.{◌≡◌};
 ghost use Rattle.nt_timer.specs.Settings.{new_timers};
 
-use crate::writing::write;
+use crate::writing::{no_such_case, write};
 use nt_event::{ThreadNo, TimerNo};
 use nt_timer::TimerQueue;
 use std::io;
@@ -33,7 +33,7 @@ fn make_calls(rt: HostRuntime, case: &str, queue: &mut TimerQueue) -> io::Result
         "a delay is taken back" => taken_back(rt, queue),
         "a delay is due in the past" => due_in_the_past(rt, queue),
         "numbers of sets fall" => numbers_fall(rt, queue),
-        _ => println!(rt; "  no such case"),
+        _ => no_such_case(rt),
     }
 }
 
