@@ -19,7 +19,8 @@
 //! Two closed lists are written out: that of the smallest script, and that of the worked row
 //! raise-queue-lower.
 //!
-//! Each function's contract is a law; the functions do nothing. No program stands on them yet.
+//! Each function's contract is a law; the functions do nothing. The search of `ntlab` stands on
+//! them.
 #![tactic(auto)]
 
 ghost use Rattle.nt_alike.specs.Alike.{AlikeGoOn};
