@@ -1,5 +1,6 @@
 //! Replays of lists of turns.
-ghost use Rattle.std.specs.Prelude.{◌≡◌, ◌≤◌, ◌*◌, IfErr, IfOk, IsTrue, Ok, length, reverse};
+ghost use Rattle.std.specs.Prelude.{◌≡◌, ◌≤◌, ◌*◌, [], IfErr, IfOk, IsTrue, Ok, OnOk, length};
+ghost use Rattle.std.specs.Prelude.{reverse};
 ghost use Rattle.nt_event.specs.Script.{fits};
 ghost use Rattle.nt_core.specs.Refusals.{IsReplayRefused};
 ghost use Rattle.nt_core.specs.Replays.{replayed};
@@ -22,6 +23,30 @@ impl<'s> Core<'s> {
             at: self.events.len() as u32,
             kind,
         }
+    }
+
+    /// Takes the turns of a list where no event was made before, if all are taken and together
+    /// settle; else the first that is refused, or Unfinished.
+    fn take_all(&mut self, list: &Turns) -> Result<(), ScheduleRefusal>
+        requires { self.old.past ≡ [] }
+        ensures limit { OnOk result (self.new.limit ≡ self.old.limit) }
+        ensures ok { OnOk result
+            (replayed self.old.script self.old.limit list.now ≡ Ok self.new.past) }
+        ensures err { IfErr result
+            (λ r. IsReplayRefused self.old.script self.old.limit list.now r) }
+    {
+        let mut event = no_event();
+        let mut walk = list.walk();
+        let mut turn = no_turn();
+        while walk.next(&mut turn) {
+            if let Err(refusal) = self.make(&turn, &mut event) {
+                return Err(self.bad(refusal.kind()));
+            }
+        }
+        if !self.settled() {
+            return Err(self.bad(ScheduleKind::Unfinished));
+        }
+        Ok(())
     }
 }
 
@@ -47,16 +72,8 @@ pub fn replay(
         Ok(core) => core,
         Err(_) => return Err(ScheduleRefusal::NoMemory),
     };
-    let mut event = no_event();
-    let mut walk = list.walk();
-    let mut turn = no_turn();
-    while walk.next(&mut turn) {
-        if let Err(refusal) = core.make(&turn, &mut event) {
-            return Err(core.bad(refusal.kind()));
-        }
+    match core.take_all(list) {
+        Ok(()) => Ok(core.finish()),
+        Err(refusal) => Err(refusal),
     }
-    if !core.settled() {
-        return Err(core.bad(ScheduleKind::Unfinished));
-    }
-    Ok(core.finish())
 }

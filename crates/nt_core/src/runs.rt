@@ -1,5 +1,6 @@
 //! The run of the robin rule.
-ghost use Rattle.std.specs.Prelude.{◌≡◌, ◌≤◌, ◌*◌, IfOk, IsTrue, None, Some, false, reverse, true};
+ghost use Rattle.std.specs.Prelude.{◌≡◌, ◌≤◌, ◌*◌, [], IfOk, IsTrue, None, Some, false, reverse};
+ghost use Rattle.std.specs.Prelude.{true};
 ghost use Rattle.nt_event.specs.Robin.{IsRobin, is_settled, robin as robin_in};
 ghost use Rattle.nt_event.specs.Script.{fits};
 ghost use Rattle.nt_event.specs.Step.{IsRun, turn_of};
@@ -31,6 +32,23 @@ impl<'s> Core<'s> {
         self.events.put(event);
         true
     }
+
+    /// Makes the events of the robin rule to the end, where none was made before.
+    fn go_on_to_the_end(&mut self)
+        requires { self.old.past ≡ [] }
+        ensures limit { self.new.limit ≡ self.old.limit }
+        ensures run { IsRun self.old.script self.old.limit self.new.past }
+        ensures robin { IsRobin self.old.script self.old.limit self.new.past }
+        ensures settled { is_settled self.old.script self.old.limit self.new.past ≡ true }
+    {
+        let mut event = no_event();
+        let mut last = None;
+        while self.go_on(last, &mut event) {
+            last = Some(event.cpu);
+            self.is_run();
+        }
+        self.is_run();
+    }
 }
 
 /// The run of the script by the robin rule, to its end, where each processor may make this many
@@ -48,12 +66,6 @@ pub fn run(alloc: Global, script: &Script, turns: u32) -> Result<History, AllocE
     ensures settled { IfOk result (λ h. is_settled script.now turns (reverse h.events) ≡ true) }
 {
     let mut core = Core::new(alloc, script, turns)?;
-    let mut event = no_event();
-    let mut last = None;
-    while core.go_on(last, &mut event) {
-        last = Some(event.cpu);
-        core.is_run();
-    }
-    core.is_run();
+    core.go_on_to_the_end();
     Ok(core.finish())
 }
