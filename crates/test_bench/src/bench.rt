@@ -32,6 +32,19 @@ const RAISED: &str = "\
     cpus 1\ndpc work run\nthread main 0 body\nroutine run\nnote 7\nexit\nroutine body\n\
     raise 2\nqueue work\nnote 1\nlower 0\nnote 2\nexit\n";
 
+/// What holds the DPC of the first of them back while its thread is at DISPATCH_LEVEL, and what is
+/// told of it once the thread has lowered the level.
+const WORK_AFTER_3: &str = "\
+    dpc work is queued on p0 since 2: medium, by p0\nit is the first of its part\n\
+    * p0 is at level 2 since 1: base main, frame 0\n\
+    class 2 of p0 was asked at 2, noticed at 2\n\
+    * next on p0 comes: call 0 note 1\nthen: begun at 5\n";
+
+const WORK_AFTER_5: &str = "\
+    dpc work is queued on p0 since 2: medium, by p0\nit is the first of its part\n\
+    p0 is at level 0 since 4: base main, frame 0\n\
+    class 2 of p0 was asked at 2, noticed at 2\nthen: begun at 5\n";
+
 const TWO_CPUS: &str = "\
     cpus 2\ndpc work run\nthread a 0 ra\nthread b 1 rb\nroutine run\nnote 1\nnote 2\n\
     note 3\nnote 4\nexit\nroutine ra\nqueue work\nexit\nroutine rb\nnote 8\nnote 9\n\
@@ -336,14 +349,16 @@ fn runs_are_shown(rt: HostRuntime) -> Result<(), Fail> {
     let schedule = "schedule 9\nswitch 0 t\nnext 0\nnext 0\nnext 0\nnext 0\ndone\n";
     let words = ["run", "--schedule", "--turns", "9"];
     assert!(rt; gives(alloc, &words, script, Status::Ok, schedule)?);
-    let report = "0  p0  t  PASSIVE   switch to t\n1  p0  t  PASSIVE   note 1 -> done\n";
-    let found = program(alloc, &["run"], script)?;
-    assert!(rt; found.0 == Status::Ok && found.1.as_slice().starts_with(report.as_bytes()));
+    let report = "0  p0  t  PASSIVE   switch to t\n1  p0  t  PASSIVE   note 1 -> done\n\
+        2  p0  t  PASSIVE   end thread t\n3  p0  t  PASSIVE   thread t is gone\n\
+        4  p0  -  PASSIVE   rest\n";
+    assert!(rt; gives(alloc, &["run"], script, Status::Ok, report)?);
     assert!(rt; gives(alloc, &["left"], script, Status::Ok, "nothing is left\n")?);
     let found = program(alloc, &["draw"], script)?;
     assert!(rt; found.0 == Status::Ok && found.1.as_slice().starts_with(b"<svg "));
-    let found = program(alloc, &["draw", "--text"], script)?;
-    assert!(rt; found.0 == Status::Ok && !found.1.is_empty());
+    let lanes = "       p0\n     0 > switch t\n     1 | note 1\n     2 | end 0\n     \
+        3 < gone t\n     4 rest\n";
+    assert!(rt; gives(alloc, &["draw", "--text"], script, Status::Ok, lanes)?);
     Ok(())
 }
 
@@ -370,10 +385,16 @@ fn a_schedule_that_is_refused_is_told(rt: HostRuntime) -> Result<(), Fail> {
 fn reasons_are_told(rt: HostRuntime) -> Result<(), Fail> {
     let alloc = rt.alloc();
     let script = RAISED.as_bytes();
-    let found = program(alloc, &["why", "dpc", "work", "3"], script)?;
-    assert!(rt; found.0 == Status::Ok && !found.1.is_empty());
-    let found = program(alloc, &["why", "int", "0", "5"], script)?;
-    assert!(rt; found.0 == Status::Ok && !found.1.is_empty());
+    let words = ["why", "dpc", "work", "3"];
+    assert!(rt; gives(alloc, &words, script, Status::Ok, WORK_AFTER_3)?);
+    let words = ["why", "dpc", "work", "5"];
+    assert!(rt; gives(alloc, &words, script, Status::Ok, WORK_AFTER_5)?);
+    let words = ["why", "thread", "main", "3"];
+    let text = "main runs\nthen: not taken up any more\n";
+    assert!(rt; gives(alloc, &words, script, Status::Ok, text)?);
+    let words = ["why", "int", "0", "5"];
+    let text = "* class 5 of p0 isn't asked\nthen: not begun any more\n";
+    assert!(rt; gives(alloc, &words, script, Status::Ok, text)?);
     let text = "the script has no int p9 5\n";
     assert!(rt;
         tells(
