@@ -1,5 +1,5 @@
 -- The last of some words.
-use Rattle.std.proofs.Common.{arith, refl, ap, ◌∙◌, sym}
+use Rattle.std.proofs.Common.{arith, ap, ◌∙◌, sym}
 use Rattle.std.specs.Prelude.{List, [], ◌∷◌, Some, get_or, length, map, ℕ, ◌≡◌, ◌≤◌, ◌-◌, ◌<◌}
 use Rattle.std.proofs.lemmas.List.{length-map, get_or-map}
 use Rattle.nt_lab_words.specs.Words.{last_of}

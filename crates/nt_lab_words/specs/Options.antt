@@ -1,6 +1,7 @@
 -- The options behind the word of a form: which words are some.
-use Rattle.std.specs.Prelude.{◌≡◌, ◌≤◌, ◌∷◌, ◌&&◌, ℕ, List, [], Option, Some, None, Bool, true, false, codes, not}
-use Rattle.std.specs.Prelude.{nat_le, option_and_then, if◌then◌else◌, ◌^◌, ◌-◌, IfSome}
+use Rattle.std.specs.Prelude.{◌≤◌, ◌∷◌, ◌&&◌, ℕ, List, [], Option, Some, None, true, false, codes, not}
+use Rattle.std.specs.Prelude.{nat_le, option_and_then, if◌then◌else◌, ◌^◌, ◌-◌, IfSome, drop, length, take}
+use Rattle.std.specs.Option.{option_or}
 use Rattle.std.specs.Str.{bytes_eq}
 use Rattle.nt_event.specs.declared.limits.TheConstants.{EVENTS, TURNS}
 use Rattle.nt_text.specs.Fields.{number_up_to}
@@ -18,6 +19,19 @@ name_of word = if bytes_eq word (codes "--from") then Some From else
     (if bytes_eq word (codes "--order") then Some Order else
     (if bytes_eq word (codes "--seed") then Some Seed else
     (if bytes_eq word (codes "--turns") then Some Turns else None))))
+
+-- the option and its value, where the word is this front and a value behind it
+abbrev pub joined_by : OptionName → List ℕ → List ℕ → Option (OptionName × List ℕ)
+joined_by name front word = if bytes_eq (take (length front) word) front
+    then Some (name, drop (length front) word) else None
+
+-- the option and its value, where one word has both
+abbrev pub joined : List ℕ → Option (OptionName × List ℕ)
+joined word = option_or (joined_by From (codes "--from=") word)
+    (option_or (joined_by To (codes "--to=") word)
+    (option_or (joined_by Order (codes "--order=") word)
+    (option_or (joined_by Seed (codes "--seed=") word)
+    (joined_by Turns (codes "--turns=") word))))
 
 -- the order of this word
 abbrev pub order_of : List ℕ → Option OrderName
@@ -72,15 +86,23 @@ with_flag o word = if bytes_eq word (codes "--text") && not o.as_text then Some 
 abbrev pub start : Reading
 start = record { options = no_options; waiting = None }
 
--- a word with which no value is wanted: the name of an option, or an option without a value
+-- no value is wanted behind these options
+abbrev pub all_read : Option Options → Option Reading
+all_read o = option_and_then (λ x. Some (record { options = x; waiting = None })) o
+
+-- a word that is no name of an option: an option with its value, or one that has none
+abbrev pub by_itself : Options → List ℕ → Option (OptionName × List ℕ) → Option Reading
+by_itself o word (Some x) = all_read (with_value o x.0 x.1)
+by_itself o word None = all_read (with_flag o word)
+
+-- a word with which no value is wanted: the name of an option, or an option by itself
 abbrev pub named : Options → List ℕ → Option OptionName → Option Reading
 named o word (Some name) = Some (record { options = o; waiting = Some name })
-named o word None = option_and_then (λ x. Some (record { options = x; waiting = None })) (with_flag o word)
+named o word None = by_itself o word (joined word)
 
 -- a word: the value that is wanted, or an option
 abbrev pub step_by : Options → List ℕ → Option OptionName → Option Reading
-step_by o word (Some name) = option_and_then (λ x. Some (record { options = x; waiting = None }))
-    (with_value o name word)
+step_by o word (Some name) = all_read (with_value o name word)
 step_by o word None = named o word (name_of word)
 
 abbrev pub step : Reading → List ℕ → Option Reading

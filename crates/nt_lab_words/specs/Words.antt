@@ -1,5 +1,5 @@
 -- The words of the command line, without the program's name: which task they are.
-use Rattle.std.specs.Prelude.{◌≡◌, ◌∷◌, ◌&&◌, ◌||◌, ◌-◌, ◌==◌, ℕ, List, [], Option, Some, None, Bool, true, false}
+use Rattle.std.specs.Prelude.{◌∷◌, ◌&&◌, ◌||◌, ◌-◌, ◌==◌, ℕ, List, [], Option, Some, None, Bool, true, false}
 use Rattle.std.specs.Prelude.{codes, option_map}
 use Rattle.std.specs.Prelude.{get_or, length, not, option_and_then, take, is_some, if◌then◌else◌, ◌≤◌, IfSome}
 use Rattle.std.specs.Str.{bytes_eq}
@@ -35,14 +35,19 @@ order_by None None = Some order.Robin
 abbrev pub how : Order → Options → How
 how by o = record { order = by; turns = o.turns; goes_on = o.goes_on }
 
--- `run` with these options
+-- how the turns are chosen is given
+abbrev pub is_chosen : Options → Bool
+is_chosen o = is_some o.order || is_some o.seed || is_some o.turns
+
+-- `run` with these options: behind a schedule it goes on by the robin rule, with the schedule's turn limit
 abbrev pub run_of : Options → Option Work
 run_of o = if is_some o.from || is_some o.to || o.as_text then None else
-    option_and_then (λ x. Some (Run (how x o) o.as_schedule)) (order_by o.order o.seed)
+    (if o.goes_on && is_chosen o then None else
+    option_and_then (λ x. Some (Run (how x o) o.as_schedule)) (order_by o.order o.seed))
 
 -- `draw` with these options
 abbrev pub draw_of : Options → Option Work
-draw_of o = if is_some o.order || is_some o.seed || is_some o.turns then None else
+draw_of o = if is_chosen o then None else
     (if o.as_schedule || o.goes_on then None else Some (Draw o.from o.to o.as_text))
 
 abbrev pub kind_word : ThingKind → List ℕ

@@ -1,7 +1,7 @@
 //! The options behind the word of a form.
-ghost use Rattle.std.specs.Prelude.{◌≡◌, ◌≤◌, IfSome, map, string_bytes};
-ghost use Rattle.nt_lab_words.specs.Options.{IsOptions, name_of, number_within, options_of};
-ghost use Rattle.nt_lab_words.specs.Options.{order_of};
+ghost use Rattle.std.specs.Prelude.{◌≡◌, ◌≤◌, IfSome, None, Some, map, option_map, string_bytes};
+ghost use Rattle.nt_lab_words.specs.Options.{IsOptions, all_read, by_itself, joined, joined_by};
+ghost use Rattle.nt_lab_words.specs.Options.{name_of, number_within, options_of, order_of};
 ghost use Rattle.nt_lab_words.specs.Options.{once, read_words, start, step, with_flag, with_value};
 
 use nt_event::limits::{EVENTS, TURNS};
@@ -64,6 +64,27 @@ fn name_of(word: &[u8]) -> Option<OptionName>
     } else {
         None
     }
+}
+
+/// The option and its value, where the word is this front and a value behind it.
+fn joined_by<'w>(name: OptionName, front: &[u8], word: &'w [u8]) -> Option<(OptionName, &'w [u8])>
+    ensures { option_map (λ x. (x.0, x.1.now)) result ≡ joined_by name front.now word.now }
+{
+    match word.strip_prefix(front) {
+        Some(value) => Some((name, value)),
+        None => None,
+    }
+}
+
+/// The option and its value, where one word has both.
+fn joined(word: &[u8]) -> Option<(OptionName, &[u8])>
+    ensures { option_map (λ x. (x.0, x.1.now)) result ≡ joined word.now }
+{
+    joined_by(OptionName::From, b"--from=", word)
+        .or(joined_by(OptionName::To, b"--to=", word))
+        .or(joined_by(OptionName::Order, b"--order=", word))
+        .or(joined_by(OptionName::Seed, b"--seed=", word))
+        .or(joined_by(OptionName::Turns, b"--turns=", word))
 }
 
 /// The order of this word.
@@ -172,6 +193,17 @@ impl Options {
             None
         }
     }
+
+    /// The same with the option that a word is by itself: one with its value, or one that has none.
+    fn by_itself(self, word: &[u8]) -> Option<Options>
+        ensures value { all_read result ≡ by_itself self word.now (joined word.now) }
+        ensures within { IsOptions self → IfSome result IsOptions }
+    {
+        match joined(word) {
+            Some((name, value)) => self.with_value(name, value),
+            None => self.with_flag(word),
+        }
+    }
 }
 
 /// What was read of the words so far.
@@ -200,7 +232,7 @@ impl Reading {
                 waiting: Some(name),
             }),
             None => Some(Reading {
-                options: self.options.with_flag(word)?,
+                options: self.options.by_itself(word)?,
                 waiting: None,
             }),
         }

@@ -5,7 +5,7 @@ ghost use Rattle.nt_event.specs.declared.limits.TheConstants.{EVENTS};
 ghost use Rattle.nt_text.specs.Fields.{number_up_to};
 ghost use Rattle.nt_lab_words.specs.Words.{IsTask, IsWork, after_in, behind_name, call_of, draw_of};
 ghost use Rattle.nt_lab_words.specs.Words.{file_of, has_two_words, is_file, is_level, kind_of};
-ghost use Rattle.nt_lab_words.specs.Words.{kind_word};
+ghost use Rattle.nt_lab_words.specs.Words.{is_chosen, kind_word};
 ghost use Rattle.nt_lab_words.specs.Words.{order_by, plain_task, run_of, task_by, task_of, why_of};
 ghost use Rattle.nt_lab_words.specs.Words.{with_file};
 
@@ -21,8 +21,10 @@ usage: ntlab FORM [FILE]
   ask [--states N]        whether each expectation holds under any schedule
   witness I [--states N]  a schedule that shows that expectation I fails
   tidy                    the strict script that a friendly one means
-  run [--order robin|random] [--seed N] [--turns N] [--schedule] [--go-on]
+  run [--order robin|random] [--seed N] [--turns N] [--schedule]
                           what happens in a run, for people; or its schedule
+  run --go-on [--schedule]
+                          the same, where a schedule is the front part of a run
   why THING [N]           why a thing has not run after N events
   left                    what is left at the end of a run, and why
   draw [--from A] [--to B] [--text]
@@ -30,11 +32,14 @@ usage: ntlab FORM [FILE]
   --help, --version
 
 THING: dpc NAME, apc NAME, thread NAME, timer NAME or int CPU LEVEL
+Numbers: I is 1 to 64, LEVEL 0 to 15, N of --states 1000 to 50000000, of --seed 0
+to 4294967295, of --turns 1 to 20000; A, B and N of why are 0 to 160000.
+An option is spelled --NAME N or --NAME=N.
 Without FILE the text is read from standard input.
 ";
 
 /// What `--version` writes.
-pub const VERSION: &str = "ntlab 1\n";
+pub const VERSION: &str = "ntlab 0.4.0\n";
 
 /// In which order the turns of a run are taken.
 #[derive(Clone, Copy, PartialEq, Eq, Debug)]
@@ -155,12 +160,23 @@ fn order_by(name: Option<OrderName>, seed: Option<u32>) -> Option<Order>
     }
 }
 
-/// `run` with these options, where it takes them. A run that goes on does so by the robin rule.
+/// Whether it is given how the turns are chosen.
+fn is_chosen(options: Options) -> bool
+    ensures { result ≡ is_chosen options }
+{
+    options.order.is_some() || options.seed.is_some() || options.turns.is_some()
+}
+
+/// `run` with these options, where it takes them. Behind a schedule a run goes on by the robin
+/// rule, with the schedule's turn limit.
 fn run_of(options: Options) -> Option<Work>
     ensures value { result ≡ run_of options }
     ensures within { IsOptions options → IfSome result IsWork }
 {
     if options.from.is_some() || options.to.is_some() || options.as_text {
+        return None;
+    }
+    if options.goes_on && is_chosen(options) {
         return None;
     }
     let how = How {
@@ -179,7 +195,7 @@ fn draw_of(options: Options) -> Option<Work>
     ensures value { result ≡ draw_of options }
     ensures within { IfSome result IsWork }
 {
-    if options.order.is_some() || options.seed.is_some() || options.turns.is_some() {
+    if is_chosen(options) {
         return None;
     }
     if options.as_schedule || options.goes_on {

@@ -89,6 +89,50 @@ fn runs_have_options(rt: HostRuntime) -> Result<(), Fail> {
 }
 
 #[test]
+fn an_option_may_be_one_word(rt: HostRuntime) -> Result<(), Fail> {
+    let alloc = rt.alloc();
+    let how = How {
+        order: Order::Random(7),
+        turns: Some(20),
+        goes_on: false,
+    };
+    let run = Work::Run {
+        how,
+        as_schedule: false,
+    };
+    let words = ["run", "--turns=20", "--seed", "7", "--order=random", "a"];
+    assert!(rt; asks(alloc, &words, run, true)?);
+    assert!(rt; asks_nothing(alloc, &["run", "--turns=20", "--turns", "20"])?);
+    assert!(rt; asks_nothing(alloc, &["run", "--turns="])?);
+    let picture = Work::Draw {
+        from: Some(3),
+        to: Some(9),
+        as_text: false,
+    };
+    assert!(rt; asks(alloc, &["draw", "--to=9", "--from=3"], picture, false)?);
+    assert!(rt; asks_nothing(alloc, &["draw", "--text=9"])?);
+    Ok(())
+}
+
+#[test]
+fn a_run_goes_on_by_the_robin_rule(rt: HostRuntime) -> Result<(), Fail> {
+    let alloc = rt.alloc();
+    let how = How {
+        order: Order::Robin,
+        turns: None,
+        goes_on: true,
+    };
+    let run = Work::Run {
+        how,
+        as_schedule: true,
+    };
+    assert!(rt; asks(alloc, &["run", "--go-on", "--schedule"], run, false)?);
+    assert!(rt; asks_nothing(alloc, &["run", "--go-on", "--turns=7"])?);
+    assert!(rt; asks_nothing(alloc, &["run", "--go-on", "--order", "robin"])?);
+    Ok(())
+}
+
+#[test]
 fn things_have_a_kind_and_a_name(rt: HostRuntime) -> Result<(), Fail> {
     let alloc = rt.alloc();
     let why = Work::Why {
