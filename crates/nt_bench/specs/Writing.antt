@@ -1,11 +1,13 @@
 -- Where texts are written, and what stands there then.
-use Rattle.std.specs.Prelude.{◌≡◌, ◌⊎◌, ◌∷◌, [], ℕ, List, Option}
+use Rattle.std.specs.Prelude.{◌≡◌, ◌⊎◌, ◌∷◌, [], ℕ, List, Option, codes}
 use Rattle.std.specs.Io.KnownBytes.{append_known}
 use Rattle.nt_ask.specs.declared.answer.Status.{Status}
 use Rattle.nt_ask.specs.declared.answer.Status.TheVariants as exit
 use Rattle.nt_outside.specs.Bytes.{AddsFrontOf}
 use Rattle.nt_outside.specs.Counts.{Rose}
+use Rattle.nt_lab.specs.Replies.{memory_line}
 use Rattle.nt_outside.specs.Sides.{Store, store}
+use Rattle.nt_people.specs.Messages.{shown_text}
 use Rattle.nt_bench.specs.declared.reply.Stream.{Stream}
 use Rattle.nt_bench.specs.declared.reply.Stream.TheVariants as stream
 
@@ -41,6 +43,13 @@ IsPut text old new = (new.held ≡ append_known old.held text) ⊎
 abbrev pub ArePut : List (List ℕ) → Store → Store → Type 0
 ArePut [] old new = new ≡ old
 ArePut (text ∷ texts) old new = (between : Store) × IsPut text old between × ArePut texts between new
+
+-- what is told where the file of this name can't be opened, and the status: the name as it is shown; or that memory is
+-- wanting
+pub data IsUnopened (name : List ℕ) (old new : Store) (status : Status) : Type 0 where
+  told : status ≡ exit.Read → ArePut (codes "cannot open " ∷ shown_text name ∷ codes "\n" ∷ []) old new →
+      IsUnopened name old new status
+  starved : status ≡ exit.Memory → IsPut memory_line old new → IsUnopened name old new status
 
 -- an answer was added and the call answers its status; or the sink failed, and a front part was added
 abbrev pub IsWritten : Status → List ℕ → Store → Store → Status → Type 0

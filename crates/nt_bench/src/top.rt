@@ -1,11 +1,11 @@
 //! The top call: from the words and the bytes in to the bytes out.
-ghost use Rattle.std.specs.Prelude.{◌≡◌, ◌≢◌, ◌∷◌, [], Some, codes, map, string_bytes};
+ghost use Rattle.std.specs.Prelude.{◌≡◌, ◌≢◌, Some, map, string_bytes};
 ghost use Rattle.nt_lab.specs.Replies.{memory_line, text_of};
 ghost use Rattle.nt_outside.specs.Sides.{store, supply};
 ghost use Rattle.nt_bench.specs.Friendly.{AreNamed};
 ghost use Rattle.nt_bench.specs.Outcome.{IsAnswered, IsFoundBy, IsFoundFrom, IsFoundOf};
 ghost use Rattle.nt_lab_words.specs.Words.{IsTask, IsWork, call_of};
-ghost use Rattle.nt_bench.specs.Writing.{ArePut, IsPut, IsWritten, IsWrittenTo, stores};
+ghost use Rattle.nt_bench.specs.Writing.{IsPut, IsUnopened, IsWritten, IsWrittenTo, stores};
 ghost use Rattle.nt_bench.specs.Writing.{stream_of};
 
 use crate::friendly::Named;
@@ -17,6 +17,7 @@ use nt_lab_words::{
     Call, Task, USAGE, VERSION, Work, call_of, fourth_word, named_file, third_word,
 };
 use nt_outside::{ReadRefusal, Sink, Source, WriteFault, read_all, write_all};
+use nt_people::shown_text;
 use nt_text::INPUT_LIMIT;
 use std::alloc::Global;
 
@@ -124,17 +125,21 @@ pub fn starved<E: Sink>(err: &mut E) -> Status
     Status::Memory
 }
 
-/// What is told and answered where the file of this name can't be opened.
-pub fn unopened<E: Sink>(name: &str, err: &mut E) -> Status
-    ensures status { result ≡ Status.Read }
-    ensures told { ArePut (codes "cannot open " ∷ name.now ∷ codes "\n" ∷ [])
-        (store (E.held err.old) (E.faults err.old))
-        (store (E.held err.new) (E.faults err.new)) }
+/// What is told and answered where the file of this name can't be opened: `Read`, and the name as
+/// a terminal shows it; or `Memory`, where that is wanting.
+pub fn unopened<E: Sink>(alloc: Global, name: &str, err: &mut E) -> Status
+    ensures { IsUnopened name.now (store (E.held err.old) (E.faults err.old))
+        (store (E.held err.new) (E.faults err.new)) result }
 {
-    tell(b"cannot open ", err);
-    tell(name.as_bytes(), err);
-    tell(b"\n", err);
-    Status::Read
+    match shown_text(alloc, name) {
+        Ok(shown) => {
+            tell(b"cannot open ", err);
+            tell(shown.as_bytes(), err);
+            tell(b"\n", err);
+            Status::Read
+        }
+        Err(_) => starved(err),
+    }
 }
 
 /// The program: `words` are those behind its name. Where they name a file, the source reads it.

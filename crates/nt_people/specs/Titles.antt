@@ -7,7 +7,6 @@ use Rattle.nt_text.specs.declared.kind.ScriptKind.TheVariants.{TooMany, NoEnd, W
 use Rattle.nt_text.specs.declared.kind.What10.{What10}
 use Rattle.nt_text.specs.declared.kind.What10.TheVariants.{Cpus, Threads, Dpcs, Apcs, Timers, Spinlocks, Routines}
 use Rattle.nt_text.specs.declared.kind.What10.TheVariants.{Commands, Turns}
-use Rattle.nt_expect.specs.declared.refusals.ExpectKind.{ExpectKind}
 use Rattle.nt_expect.specs.declared.refusals.ExpectKind.TheVariants as expect
 use Rattle.nt_people.specs.declared.fault.Fault.{Fault}
 use Rattle.nt_people.specs.declared.fault.Fault.TheVariants.{Script, Expect, Report, Schedule}

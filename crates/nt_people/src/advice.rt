@@ -1,7 +1,7 @@
 //! The usual cause of what is wrong, and what to do.
 use crate::fault::{Fault, TextPart};
-use crate::locating::{Found, Way};
-use crate::sorts::Sort;
+use crate::locating::{Found, Spot, Way};
+use crate::sorts::{Sort, is_bad_word};
 use nt_line::Kind;
 use nt_text::{ScriptKind, What10};
 
@@ -209,9 +209,16 @@ fn missing_name(kind: Kind) -> &'static str {
     }
 }
 
+/// Whether the line of a field too many is none of the text's own, since its first word is none.
+fn is_behind_done(part: TextPart, found: &Found) -> bool {
+    part == TextPart::Expectations
+        && found.spot == Spot::Field(1)
+        && is_bad_word(Sort::Quantifier, found.before)
+}
+
 /// What to do about a field too many.
-fn about_extra(found: &Found) -> &'static str {
-    if found.way == Way::Place {
+fn about_extra(part: TextPart, found: &Found) -> &'static str {
+    if found.way == Way::Place || is_behind_done(part, found) {
         return "nothing more may stand behind the line \"done\"";
     }
     if found.before == b"DIRQL".as_slice() {
@@ -239,11 +246,12 @@ fn too_many(thing: What10) -> &'static str {
 }
 
 /// What to do where a text ends too early.
-fn early_end(part: TextPart) -> &'static str {
+fn early_end(part: TextPart, text: &[u8]) -> &'static str {
     match part {
-        TextPart::Script => {
-            "a routine ends with the line \"exit\", and expectations begin with the line \"expect\""
+        TextPart::Script if text.ends_with(b"exit\n") => {
+            "expectations are missing: behind the last routine they begin with the line \"expect\""
         }
+        TextPart::Script => "a routine ends with the line \"exit\"",
         TextPart::Expectations => "expectations end with the line \"done\"",
         TextPart::Schedule => "a schedule ends with the line \"done\"",
         TextPart::Report => "a report ends with its schedule, and that with the line \"done\"",
@@ -267,11 +275,17 @@ fn about_unknown(sort: Sort) -> &'static str {
     }
 }
 
-/// What to do about a name or a reply of another kind.
-fn about_other_kind(sort: Sort) -> &'static str {
-    match named_kind(sort) {
-        Some(kind) => other_kind(kind),
-        None => "the command never gives this reply: docs/machine.md tells what each may reply",
+/// What to do about a name or a reply of another kind, or about a line of a report.
+fn about_other_kind(part: TextPart, sort: Sort) -> &'static str {
+    match (part, named_kind(sort)) {
+        (TextPart::Report, _) => {
+            "the number of an event is one more than that of the line before it, a name is one of \
+             the kind that stands here, and a reply one that the command gives"
+        }
+        (_, Some(kind)) => other_kind(kind),
+        (_, None) => {
+            "the command never gives this reply: docs/machine.md tells what each may reply"
+        }
     }
 }
 
@@ -285,8 +299,8 @@ fn about_twice(sort: Sort) -> &'static str {
     }
 }
 
-/// What to do about what is wrong in a line of a strict text.
-pub(crate) fn advice(fault: Fault, found: &Found) -> &'static str {
+/// What to do about what is wrong in a line of this strict text.
+pub(crate) fn advice(fault: Fault, text: &[u8], found: &Found) -> &'static str {
     let Some(kind) = fault.kind() else {
         return "a script has at most 64 expectations: ask for the others in a text of their own";
     };
@@ -297,7 +311,7 @@ pub(crate) fn advice(fault: Fault, found: &Found) -> &'static str {
         }
         ScriptKind::UnknownWord => about_word(fault.part(), found),
         ScriptKind::MissingField => missing(found.sort),
-        ScriptKind::ExtraField => about_extra(found),
+        ScriptKind::ExtraField => about_extra(fault.part(), found),
         ScriptKind::BadNumber => number_advice(found.sort),
         ScriptKind::BadName => "a name has 1 to 16 of the signs a to z, 0 to 9 and _",
         ScriptKind::NameTwice => about_twice(found.sort),
@@ -305,7 +319,7 @@ pub(crate) fn advice(fault: Fault, found: &Found) -> &'static str {
         ScriptKind::NoCpus =>
             "a script begins with \"cpus N\", behind \"version 2\" where that stands",
         ScriptKind::TooMany(thing) => too_many(thing),
-        ScriptKind::NoEnd => early_end(fault.part()),
-        ScriptKind::WrongKind => about_other_kind(found.sort),
+        ScriptKind::NoEnd => early_end(fault.part(), text),
+        ScriptKind::WrongKind => about_other_kind(fault.part(), found.sort),
     }
 }

@@ -22,3 +22,4 @@ mod walking;
 
 pub use fault::Fault;
 pub use message::refusal_message;
+pub use quoting::shown_text;

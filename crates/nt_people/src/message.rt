@@ -4,7 +4,7 @@ ghost use Rattle.std.specs.Prelude.{option_map};
 ghost use Rattle.std.specs.Option.{option_map_or};
 ghost use Rattle.nt_text.specs.declared.lines.TheConstants.{INPUT_LIMIT};
 ghost use Rattle.nt_people.specs.Messages.{IsMessage, heads, last_line};
-ghost use Rattle.nt_people.specs.Messages.{message_text, proposal, title_line};
+ghost use Rattle.nt_people.specs.Messages.{message_text, proposal, shown_text, title_line};
 ghost use Rattle.nt_people.specs.Near.{IsDeclared};
 
 use crate::advice::advice;
@@ -12,7 +12,7 @@ use crate::fault::Fault;
 use crate::locating::{Found, Way, locate};
 use crate::near::{near_name, near_word};
 use crate::places::{Mark, line_numbered, mark_of, told_line};
-use crate::quoting::{digits, put_plain, put_quoted};
+use crate::quoting::{digits, put_plain, put_quoted, shown_text};
 use crate::sorts::{level_names, used_kind, words};
 use crate::titles::title;
 use nt_friendly::Tidied;
@@ -30,11 +30,20 @@ fn source_name(file: Option<&str>) -> &str
     }
 }
 
+/// Adds a text as it is shown.
+fn put_name(out: &mut Vec<u8>, name: &str) -> Result<(), AllocError>
+    ensures { OnOk result (out.new.items ≡ out.old.items ++ shown_text name.now) }
+{
+    let shown = shown_text(*out.allocator(), name)?;
+    out.extend_from_slice(shown.as_bytes())
+}
+
 /// Adds the place at which a message begins.
 fn put_heads(out: &mut Vec<u8>, source: &str, number: u32, column: usize) -> Result<(), AllocError>
-    ensures { OnOk result (out.new.items ≡ out.old.items ++ heads source.now number column) }
+    ensures { OnOk result
+        (out.new.items ≡ out.old.items ++ heads (shown_text source.now) number column) }
 {
-    out.extend_from_slice(source.as_bytes())?;
+    put_name(out, source)?;
     out.push(b':')?;
     put_digits(out, number as u64)?;
     out.push(b':')?;
@@ -177,7 +186,7 @@ pub fn refusal_message(
     let found = locate(fault, text, strict);
     let near = meant_name(alloc, fault, text, &found)?;
     let word = near_word(alloc, meant_words(fault, &found), found.field)?;
-    let wording = wording(alloc, advice(fault, &found), word)?;
+    let wording = wording(alloc, advice(fault, text, &found), word)?;
     let told = Told {
         source: source_name(file),
         number,

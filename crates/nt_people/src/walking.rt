@@ -158,6 +158,10 @@ impl Walk {
 
     /// Takes the first field of a report's line, of which the last are those of its schedule.
     fn take_reported(&mut self, field: &[u8]) -> Sort {
+        if is_word(field, b"report") {
+            self.then = Then::Nothing;
+            return Sort::Reported;
+        }
         if is_bad_word(Sort::Turn, field) {
             self.then = Then::Happened;
             return Sort::Reported;

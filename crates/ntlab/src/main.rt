@@ -31,7 +31,7 @@ fn on_file<R: Files + AllocGlobal, K: Sink, E: Sink>(
     match fs::open(rt, name) {
         Ok(file) => ntlab(rt.alloc(), words, &mut ReadSource::new(file), out, err),
         Err(error) if error.kind() == io::ErrorKind::OutOfMemory => starved(err),
-        Err(_) => unopened(name, err),
+        Err(_) => unopened(rt.alloc(), name, err),
     }
 }
 

@@ -19,7 +19,7 @@ const PUMP: &str = "# a pump\ncpus 1\nisr 0 DIRQL 5 pulse\ndpc work run\nthread 
 type Case = (&'static str, u32, Fault, &'static str);
 
 /// What the reader of scripts may say.
-const SCRIPTS: [Case; 23] = [
+const SCRIPTS: [Case; 24] = [
     (
         "cpus 1\ndpc wörk run",
         2,
@@ -175,7 +175,14 @@ const SCRIPTS: [Case; 23] = [
         3,
         Fault::Script(ScriptKind::NoEnd),
         "4:1: the text ends too early\n    4 | \n      | ^\na routine ends with the line \
-         \"exit\", and expectations begin with the line \"expect\"\n",
+         \"exit\"\n",
+    ),
+    (
+        "cpus 1\nroutine r\nexit\n",
+        4,
+        Fault::Script(ScriptKind::NoEnd),
+        "4:1: the text ends too early\n    4 | \n      | ^\nexpectations are missing: behind the \
+         last routine they begin with the line \"expect\"\n",
     ),
     (
         "cpus 2\nroutine r\nnote `7\n",
@@ -187,7 +194,7 @@ const SCRIPTS: [Case; 23] = [
 ];
 
 /// What the readers of expectations and of schedules may say.
-const OTHERS: [Case; 13] = [
+const OTHERS: [Case; 16] = [
     (
         "cpus 1\nexpect\nnever note 7 befor note 1\ndone\n",
         3,
@@ -254,6 +261,13 @@ const OTHERS: [Case; 13] = [
          \"done\"\n",
     ),
     (
+        "cpus 1\nexpect\ndone\nschedule 10000\n",
+        4,
+        Fault::Expect(ExpectKind::Line(ScriptKind::ExtraField)),
+        "4:10: a field too many\n    4 | schedule 10000\n      |          ^^^^^\nnothing more may \
+         stand behind the line \"done\"\n",
+    ),
+    (
         "cpus 1\nschedule 10\nnext 1\ndone\n",
         3,
         Fault::Schedule(ScriptKind::BadNumber),
@@ -281,6 +295,21 @@ const OTHERS: [Case; 13] = [
         Fault::Report(ScriptKind::BadNumber),
         "4:6: no number that may stand here\n    4 | next 1\n      |      ^\nprocessors are \
          counted from 0: write a number below that of the line \"cpus\"\n",
+    ),
+    (
+        "cpus 1\nreport 5\n",
+        2,
+        Fault::Report(ScriptKind::ExtraField),
+        "2:8: a field too many\n    2 | report 5\n      |        ^\nnothing more may stand in this \
+         line: a comment begins with #\n",
+    ),
+    (
+        "cpus 1\nthread a 0 b\nreport\n3 p0 a 0 gone a\n",
+        4,
+        Fault::Report(ScriptKind::WrongKind),
+        "4:1: not of the kind that stands here\n    4 | 3 p0 a 0 gone a\n      | ^\nthe number of \
+         an event is one more than that of the line before it, a name is one of the kind that stands \
+         here, and a reply one that the command gives\n",
     ),
 ];
 
@@ -352,5 +381,61 @@ fn bytes_of_no_text_are_shown(rt: HostRuntime) -> Result<(), Fail> {
              write the name without accents, and save the text as UTF-8\n"
                 .as_slice()
     );
+    Ok(())
+}
+
+/// Whether the message on an unknown word in line 3 of a text is this one.
+fn is_unknown_word(
+    alloc: Global,
+    file: Option<&str>,
+    text: &str,
+    told: &str,
+) -> Result<bool, AllocError> {
+    if text.len() > INPUT_LIMIT {
+        return Ok(false);
+    }
+    let fault = Fault::Script(ScriptKind::UnknownWord);
+    let message = message(alloc, file, text.as_bytes(), 3, fault)?;
+    Ok(message.as_slice() == told.as_bytes())
+}
+
+#[test]
+fn what_a_terminal_obeys_is_blank(rt: HostRuntime) -> Result<(), Fail> {
+    let file = Some("a\u{1b}[31m\u{202e}b\nc");
+    let text = "cpus 1\nroutine r\nqeue \u{9b}31m\u{200b}d\u{7f}\n";
+    let told = "a [31m b c:3:1: unknown word\n    3 | qeue  31m d \n      | ^^^^\nno line of a \
+                script begins with this word; words are in small letters; is \"queue\" meant?\n";
+    assert!(rt; is_unknown_word(rt.alloc(), file, text, told)?);
+    Ok(())
+}
+
+/// A line of 205 characters, and the message on its first word: 200 of them are shown.
+const LONG: (&str, &str) = (
+    "cpus 1\nroutine r\nqeue d # 23456789 123456789 123456789 123456789 123456789 123456789 \
+     123456789 123456789 123456789 123456789 123456789 123456789 123456789 123456789 \
+     123456789 123456789 123456789 123456789 123456789 1234567\n",
+    "standard input:3:1: unknown word\n    3 | qeue d # 23456789 123456789 123456789 \
+     123456789 123456789 123456789 123456789 123456789 123456789 123456789 123456789 \
+     123456789 123456789 123456789 123456789 123456789 123456789 123456789 123456789 12..\n  \
+     \x20   | ^^^^\nno line of a script begins with this word; words are in small letters; \
+     is \"queue\" meant?\n",
+);
+
+/// A line with its word in column 161, and the message: 60 characters in front are not shown.
+const FAR: (&str, &str) = (
+    "cpus 1\nroutine r\n                                                                     \
+     \x20                                                                                    \
+     \x20     qeue\n",
+    "standard input:3:161: unknown word\n    3 | ..                                          \
+     \x20                                                         qeue\n      |              \
+     \x20                                                                                    \
+     \x20   ^^^^\nno line of a script begins with this word; words are in small letters; is \
+     \"queue\" meant?\n",
+);
+
+#[test]
+fn long_lines_are_cut(rt: HostRuntime) -> Result<(), Fail> {
+    assert!(rt; is_unknown_word(rt.alloc(), None, LONG.0, LONG.1)?);
+    assert!(rt; is_unknown_word(rt.alloc(), None, FAR.0, FAR.1)?);
     Ok(())
 }

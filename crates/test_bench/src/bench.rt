@@ -314,7 +314,7 @@ fn what_is_no_question_is_refused(rt: HostRuntime) -> Result<(), Fail> {
     let alloc = rt.alloc();
     assert!(rt; tells(alloc, &["walk"], b"", Status::Usage, USAGE)?);
     assert!(rt; gives(alloc, &["--help"], b"", Status::Ok, USAGE)?);
-    assert!(rt; gives(alloc, &["--version"], b"", Status::Ok, "ntlab 1\n")?);
+    assert!(rt; gives(alloc, &["--version"], b"", Status::Ok, "ntlab 0.4.0\n")?);
     let found = program(alloc, &["ask"], b"# nothing\ncpus 0\n")?;
     assert!(rt; found.0 == Status::Refused && found.1.is_empty());
     assert!(rt; found.2.as_slice().starts_with(b"standard input:2:6: "));
@@ -422,7 +422,7 @@ fn reasons_are_told(rt: HostRuntime) -> Result<(), Fail> {
 fn what_cannot_be_read_is_told(rt: HostRuntime) -> Result<(), Fail> {
     let alloc = rt.alloc();
     let mut err = MemorySink::new(alloc, 100, 16, Vec::new(alloc))?;
-    assert!(rt; unopened("a.script", &mut err) == Status::Read);
+    assert!(rt; unopened(alloc, "a.script", &mut err) == Status::Read);
     assert!(rt; starved(&mut err) == Status::Memory);
     assert!(rt; err.bytes() == b"cannot open a.script\nno memory\n".as_slice());
     Ok(())
