@@ -75,11 +75,13 @@ impl<'l> Places<'l> {
         }
         let middle = low + (high - low) / 2;
         let mut later = machine.copy(alloc)?;
-        let found = if later.take_all(&self.turns[low as usize..middle as usize], self.goal) {
-            self.greatest_spare(alloc, &mut later, middle, high)?
+        let tried = if later.take_all(&self.turns[low as usize..middle as usize], self.goal) {
+            self.greatest_spare(alloc, &mut later, middle, high)
         } else {
-            None
+            Ok(None)
         };
+        drop(later);
+        let found = tried?;
         if found.is_some() {
             return Ok(found);
         }
@@ -103,6 +105,8 @@ impl<'l> Places<'l> {
             ≡ greatest_spare_in script.now turns self.now.goal self.now.turns.now) }
     {
         let mut machine = Machine::new(alloc, script, turns)?;
-        self.greatest_spare(alloc, &mut machine, 0, self.turns.len() as u32)
+        let place = self.greatest_spare(alloc, &mut machine, 0, self.turns.len() as u32);
+        drop(machine);
+        place
     }
 }

@@ -112,7 +112,9 @@ pub fn shrink(
         return Err(ShrinkRefusal::TooMany);
     }
     let history = trace(alloc, script, turns, list)?;
-    if !delivers(&history, goal) {
+    let is_delivered = delivers(&history, goal);
+    drop(history);
+    if !is_delivered {
         return Err(ShrinkRefusal::NotDelivered);
     }
     let mut short = copy_without(alloc, list, MOST_TURNS as u32)?;
