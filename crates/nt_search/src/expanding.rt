@@ -176,8 +176,9 @@ impl<'s> Plan<'s> {
         let unnoticed = machine.unnoticed(alloc)?;
         let turns = turns_ahead(alloc, self.script, &unnoticed)?;
         let mut next = machine.copy(alloc)?;
-        self.try_all(alloc, machine, &mut next, from, turns.as_slice(), found)?;
-        Ok(())
+        let tried = self.try_all(alloc, machine, &mut next, from, turns.as_slice(), found);
+        drop(next);
+        tried
     }
 
     /// Notes which expectations the state of this number, in which the machine stands, shows to

@@ -40,14 +40,34 @@ impl Found {
         ensures count { IfOk result (λ f. length f.failures.items ≡ count) }
         ensures none { IfOk result (λ f. (j : ℕ) → get_or f.failures.items j None ≡ None) }
     {
-        let failures = no_failures(alloc, count)?;
-        states.add(key, way)?;
-        Ok(Found {
-            states,
-            graph: Graph::new(alloc),
-            edges: 0,
-            failures,
-        })
+        match states.add(key, way) {
+            Ok(()) => Found::of(alloc, states, count),
+            Err(error) => {
+                drop(states);
+                Err(error)
+            }
+        }
+    }
+
+    /// What is found so far where these states are, and no failure of any of so many expectations.
+    fn of(alloc: Global, states: States, count: usize) -> Result<Found, AllocError>
+        ensures states { IfOk result (λ f. f.states ≡ states) }
+        ensures graph { IfOk result (λ f. f.graph ≡ record { closed = []; opened = [] }) }
+        ensures count { IfOk result (λ f. length f.failures.items ≡ count) }
+        ensures none { IfOk result (λ f. (j : ℕ) → get_or f.failures.items j None ≡ None) }
+    {
+        match no_failures(alloc, count) {
+            Ok(failures) => Ok(Found {
+                states,
+                graph: Graph::new(alloc),
+                edges: 0,
+                failures,
+            }),
+            Err(error) => {
+                drop(states);
+                Err(error)
+            }
+        }
     }
 
     /// Notes that the state that is being expanded leads to the one with this key, to which the way

@@ -255,8 +255,9 @@ impl<'s> Plan<'s> {
         let turns = turns_ahead(alloc, self.script, &unnoticed)?;
         let mut next = machine.copy(alloc)?;
         let turns = turns.as_slice();
-        self.hunt_within(alloc, machine, &mut next, place, preemptions, turns, found)?;
-        Ok(())
+        let hunted = self.hunt_within(alloc, machine, &mut next, place, preemptions, turns, found);
+        drop(next);
+        hunted
     }
 
     /// Tries the turns that may be taken from the state of this number with no more preemptions
@@ -279,8 +280,9 @@ impl<'s> Plan<'s> {
         let machine = self.machine_at(alloc, &found.states, number)?;
         let place = Place::new(number, found.states.mark_of(number));
         self.note_end(&machine, number, found);
-        self.hunt_ahead(alloc, &machine, &place, preemptions, found)?;
-        Ok(())
+        let hunted = self.hunt_ahead(alloc, &machine, &place, preemptions, found);
+        drop(machine);
+        hunted
     }
 
     /// Hunts from each state, and each that is found by this, until all failed that can.

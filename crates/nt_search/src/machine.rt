@@ -87,6 +87,14 @@ fn due_of(number: CpuNo, cpu: &Cpu) -> Option<u64>
     }
 }
 
+/// Puts the value there. The old one ends.
+#[inline(always)]
+fn put<T: Drop>(place: &mut T, value: T)
+    ensures { place.new ≡ value }
+{
+    *place = value;
+}
+
 impl<'s> Machine<'s> {
     /// One that took no turn.
     pub(crate) fn new(
@@ -102,10 +110,10 @@ impl<'s> Machine<'s> {
     {
         Ok(Machine {
             script,
-            processors: Processors::new(alloc, script, limit)?,
-            floor: PlainFloor::new(alloc, script, limit)?,
-            dpcs: ShadeDpcs::new(alloc, script)?,
             came: vec![in alloc; false; watched.len()]?,
+            processors: Processors::new(alloc, script, limit)?,
+            dpcs: ShadeDpcs::new(alloc, script)?,
+            floor: PlainFloor::new(alloc, script, limit)?,
             took: 0,
             event: no_event(),
         })
@@ -119,10 +127,10 @@ impl<'s> Machine<'s> {
     {
         Ok(Machine {
             script: self.script,
-            processors: self.processors.copy(alloc)?,
-            floor: self.floor.copy(alloc)?,
-            dpcs: self.dpcs.clone()?,
             came: self.came.to_vec(alloc)?,
+            processors: self.processors.copy(alloc)?,
+            dpcs: self.dpcs.clone()?,
+            floor: self.floor.copy(alloc)?,
             took: self.took,
             event: self.event,
         })
@@ -134,7 +142,8 @@ impl<'s> Machine<'s> {
             (s : TheScript) (limit : ℕ) (watched : List TheWatched) (past : List TheEvent) →
             Stands s limit watched past from.now → Stands s limit watched past self.new) }
     {
-        *self = from.copy(alloc)?;
+        let copy = from.copy(alloc)?;
+        put(self, copy);
         Ok(())
     }
 

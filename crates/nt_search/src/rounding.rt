@@ -61,6 +61,7 @@ impl<'s> Plan<'s> {
         }
         let shade = next.shade(alloc)?;
         let comes = states.is_of(number, &shade, &next.came);
+        drop(shade);
         Ok(comes)
     }
 
@@ -80,8 +81,9 @@ impl<'s> Plan<'s> {
             IsAfter self.now past machine.now → TurnLeads self.now all past turn.now number) }
     {
         let mut next = machine.copy(alloc)?;
-        let comes = self.comes_to(alloc, &mut next, turn, states, number)?;
-        Ok(comes)
+        let comes = self.comes_to(alloc, &mut next, turn, states, number);
+        drop(next);
+        comes
     }
 
     /// The first of these turns that leads from where the machine stands to the state of this
@@ -206,8 +208,9 @@ impl<'s> Plan<'s> {
             GoRound self.now.script.now self.now.limit (length round.now) turns.new.items) }
     {
         let mut machine = self.machine_at(alloc, states, round[0])?;
-        let is_round = self.go_round(alloc, &mut machine, turns, states, round)?;
-        Ok(is_round)
+        let is_round = self.go_round(alloc, &mut machine, turns, states, round);
+        drop(machine);
+        Ok(is_round?)
     }
 
     /// The turns that lead to the first state of the round and once round it.

@@ -35,13 +35,22 @@ impl<'s> Plan<'s> {
     {
         let machine = Machine::new(alloc, self.script, self.limit, self.watched.as_slice())?;
         let mut states = States::new(alloc);
-        let key = machine.key(alloc, &mut states, 0)?;
+        let key = machine.key(alloc, &mut states, 0);
+        drop(machine);
         let way = Way {
             from: 0,
             turn: Turn::Next(CpuNo(0)),
         };
-        let found = Found::new(alloc, states, key, way, self.expectations.len())?;
-        Ok(found)
+        match key {
+            Ok(key) => {
+                let found = Found::new(alloc, states, key, way, self.expectations.len())?;
+                Ok(found)
+            }
+            Err(error) => {
+                drop(states);
+                Err(error)
+            }
+        }
     }
 
     /// A machine in the state of this number.
@@ -66,8 +75,13 @@ impl<'s> Plan<'s> {
         }
         let watched = self.watched.as_slice();
         let mut machine = Machine::new(alloc, self.script, self.limit, watched)?;
-        self.walk(&mut machine, turns.as_slice())?;
-        Ok(machine)
+        match self.walk(&mut machine, turns.as_slice()) {
+            Ok(()) => Ok(machine),
+            Err(_) => {
+                drop(machine);
+                Err(Stop::NoMemory)
+            }
+        }
     }
 
     /// Expands the state of this number.
@@ -83,8 +97,9 @@ impl<'s> Plan<'s> {
             AreFound self.now all found.old → IsStopped self.now all stop found.new) }
     {
         let machine = self.machine_at(alloc, &found.states, number)?;
-        self.expand(alloc, &machine, number, found)?;
-        Ok(())
+        let expanded = self.expand(alloc, &machine, number, found);
+        drop(machine);
+        expanded
     }
 
     /// Expands each state, and each that is found by this.

@@ -11,8 +11,8 @@ use Rattle.nt_search.proofs.machine.Machine.new.Goals as goal
 pub returns : goal.returns
 returns c =
     let s = c.args.script.now in
-    let f = c.in_ok-new-2.field-0 in
-    let fresh = c.in_ok-new-2.ensures in
+    let f = c.in_ok-new-3.field-0 in
+    let fresh = c.in_ok-new-3.ensures in
     let items : c.in_ok-vec.field-0.items ≡ replicate (length c.args.watched.now) false = search rules in
     record {
       script = refl;
@@ -21,7 +21,7 @@ returns c =
       after = start_after s c.args.limit c.in_ok-new.field-0 f.script (view_of f) c.requires.script c.requires.turns.1 c.requires.all c.in_ok-new.ensures
           fresh.script (fresh_opening s c.args.limit f fresh);
       free = tt;
-      dpcs = c.in_ok-new-3.ensures;
+      dpcs = c.in_ok-new-2.ensures;
       came = subst (AreCame c.args.watched.now []) (sym items) (none_came c.args.watched.now);
       took = refl;
     }

@@ -12,8 +12,8 @@ machine_at-requires-clause-number c =
 pub machine_at-requires-clause-ways : goal.machine_at-requires-clause-ways
 machine_at-requires-clause-ways c = (c.requires.at.0, c.requires.at.1.ways)
 
-pub go_round-requires-clause-at : goal.go_round-requires-clause-at
-go_round-requires-clause-at c =
+pub go_round-is_round-requires-clause-at : goal.go_round-is_round-requires-clause-at
+go_round-is_round-requires-clause-at c =
     let x = c.args.self.now in
     let at = c.requires.at in
     let past = get_or at.0 (get_or c.args.round.now 0 0) [] in

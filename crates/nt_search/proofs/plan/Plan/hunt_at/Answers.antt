@@ -1,5 +1,5 @@
 use Rattle.std.proofs.Common.{subst, sym, ℕ}
-use Rattle.std.proofs.lemmas.Result.{err_from_is_err_and}
+use Rattle.std.proofs.lemmas.Result.{IfErr-weaker, err_from_is_err_and, on_ok_weaker}
 use Rattle.nt_search.specs.declared.stop.Stop.{Stop}
 use Rattle.nt_search.specs.Searches.{IsAt, IsStopped}
 use Rattle.nt_search.proofs.Listing.{if_err}
@@ -16,8 +16,8 @@ returns-in_err-machine-clause-stopped c =
 pub note_end-requires-clause-at : goal.note_end-requires-clause-at
 note_end-requires-clause-at c = (c.requires.found.0, c.requires.found.1, c.in_ok-machine.ensures.at c.requires.found.0 c.requires.found.1.states.ways)
 
-pub hunt_ahead-requires-clause-at : goal.hunt_ahead-requires-clause-at
-hunt_ahead-requires-clause-at c =
+pub hunt_ahead-hunted-requires-clause-at : goal.hunt_ahead-hunted-requires-clause-at
+hunt_ahead-hunted-requires-clause-at c =
     let x = c.args.self.now in
     let all = c.requires.found.0 in
     let at = c.in_ok-machine.ensures.at all c.requires.found.1.states.ways in (
@@ -26,20 +26,20 @@ hunt_ahead-requires-clause-at c =
       subst (λ (k : ℕ). IsAt x all k c.in_ok-machine.machine) (sym c.new-place.ensures) at,
     )
 
-pub returns-in_err-hunt_ahead-clause-stopped : goal.returns-in_err-hunt_ahead-clause-stopped
-returns-in_err-hunt_ahead-clause-stopped c =
-    let r = err_from_is_err_and c.from_residual-in_err-hunt_ahead.result c.from_residual-in_err-hunt_ahead.ensures.1 in
-    if_err _ c.from_residual-in_err-hunt_ahead.result r.0 r.1
-    (λ all h.
+pub returns-clause-stopped : goal.returns-clause-stopped
+returns-clause-stopped c =
     let x = c.args.self.now in
-    let at = c.in_ok-machine.ensures.at all h.states.ways in
-    subst (λ (stop : Stop). IsStopped x all stop c.hunt_ahead.new.found) (sym r.2)
-    (c.in_err-hunt_ahead.ensures.stopped all (c.note_end.ensures all h at).found
-    (subst (λ (k : ℕ). IsAt x all k c.in_ok-machine.machine) (sym c.new-place.ensures) at)))
+    IfErr-weaker c.hunt_ahead-hunted.result _ _
+    (λ stop h all are.
+    let at = c.in_ok-machine.ensures.at all are.states.ways in
+    h all (c.note_end.ensures all are at).found (subst (λ (k : ℕ). IsAt x all k c.in_ok-machine.machine) (sym c.new-place.ensures) at))
+    c.hunt_ahead-hunted.ensures.stopped
 
 pub returns-clause-more : goal.returns-clause-more
-returns-clause-more c all h =
+returns-clause-more c =
     let x = c.args.self.now in
-    let at = c.in_ok-machine.ensures.at all h.states.ways in
-    c.in_ok-hunt_ahead.ensures.more all (c.note_end.ensures all h at).found
-    (subst (λ (k : ℕ). IsAt x all k c.in_ok-machine.machine) (sym c.new-place.ensures) at)
+    on_ok_weaker c.hunt_ahead-hunted.result
+    (λ h all are.
+    let at = c.in_ok-machine.ensures.at all are.states.ways in
+    h all (c.note_end.ensures all are at).found (subst (λ (k : ℕ). IsAt x all k c.in_ok-machine.machine) (sym c.new-place.ensures) at))
+    c.hunt_ahead-hunted.ensures.more

@@ -42,13 +42,8 @@ walk-requires-clause-at c =
       subst (λ (w : List Watched). Stands s x.limit w [] c.in_ok-machine.machine) c.as_slice-watched.ensures.value c.in_ok-machine.ensures,
     )
 
-pub returns-in_err-walk-clause-cause : goal.returns-in_err-walk-clause-cause
-returns-in_err-walk-clause-cause c =
-    let e = err_from_is_err_and c.from_residual-in_err-walk.result c.from_residual-in_err-walk.ensures.1 in
-    if_err _ c.from_residual-in_err-walk.result e.0 e.1 (λ all are. subst (IsWayStop c.args.self.now all) (sym e.2) tt)
-
-pub returns-clause-at : goal.returns-clause-at
-returns-clause-at c all are =
+pub returns-in-Ok-clause-at : goal.returns-in-Ok-clause-at
+returns-in-Ok-clause-at c all are =
     let x = c.args.self.now in
     let s = x.script.now in
     let h = get_or all c.args.number [] in
@@ -60,4 +55,4 @@ returns-clause-at c all are =
     let count = c.len.ensures in
     let states = are.count in
     let number = c.requires.number in
-    record { state = omega (arith, states, number); stands = c.in_ok-walk.ensures h leads start; short = omega (arith, size, low, count) }
+    record { state = omega (arith, states, number); stands = c.in-Ok.ensures h leads start; short = omega (arith, size, low, count) }

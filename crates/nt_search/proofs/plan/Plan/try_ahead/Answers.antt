@@ -1,5 +1,5 @@
 use Rattle.std.proofs.Common.{[], List, get_or, subst, sym}
-use Rattle.std.proofs.lemmas.Result.{err_from_is_err_and}
+use Rattle.std.proofs.lemmas.Result.{IfErr-weaker, err_from_is_err_and, on_ok_weaker}
 use Rattle.nt_event.specs.declared.events.Turn.{Turn}
 use Rattle.nt_search.specs.declared.stop.Stop.{Stop}
 use Rattle.nt_search.specs.Searches.{AreTried, IsAt, IsStopped}
@@ -25,8 +25,8 @@ returns-in_err-next-clause-stopped c =
     if_err _ c.from_residual-in_err-next.result e.0 e.1
     (λ all h at. subst (λ (stop : Stop). IsStopped c.args.self.now all stop c.args.found.now) (sym e.2) (starved c.args.self.now all c.args.found.now h))
 
-pub try_all-requires-clause-at : goal.try_all-requires-clause-at
-try_all-requires-clause-at c =
+pub try_all-tried-requires-clause-at : goal.try_all-tried-requires-clause-at
+try_all-tried-requires-clause-at c =
     let at = c.requires.at.2 in
     let x = c.args.self.now in (
       c.requires.at.0,
@@ -35,24 +35,27 @@ try_all-requires-clause-at c =
       record { state = at.state; stands = c.in_ok-next.ensures x.script.now x.limit x.watched.items _ at.stands; short = at.short },
     )
 
-pub returns-in_err-try_all-clause-stopped : goal.returns-in_err-try_all-clause-stopped
-returns-in_err-try_all-clause-stopped c =
-    let r = err_from_is_err_and c.from_residual-in_err-try_all.result c.from_residual-in_err-try_all.ensures.1 in
-    if_err _ c.from_residual-in_err-try_all.result r.0 r.1
-    (λ all h at.
+pub returns-clause-stopped : goal.returns-clause-stopped
+returns-clause-stopped c =
     let x = c.args.self.now in
+    IfErr-weaker c.try_all-tried.result _ _
+    (λ stop h all are at.
     let next : IsAt x all c.args.from c.in_ok-next.next =
     record { state = at.state; stands = c.in_ok-next.ensures x.script.now x.limit x.watched.items _ at.stands; short = at.short } in
-    subst (λ (stop : Stop). IsStopped x all stop c.try_all.new.found) (sym r.2) (c.in_err-try_all.ensures.stopped all h at next))
+    h all are at next)
+    c.try_all-tried.ensures.stopped
 
 pub returns-clause-tried : goal.returns-clause-tried
-returns-clause-tried c all h at =
+returns-clause-tried c =
     let x = c.args.self.now in
     let s = x.script.now in
+    on_ok_weaker c.try_all-tried.result
+    (λ h all are at.
     let past = get_or all c.args.from [] in
     let next : IsAt x all c.args.from c.in_ok-next.next =
     record { state = at.state; stands = c.in_ok-next.ensures s x.limit x.watched.items _ at.stands; short = at.short } in
     let whole = c.in_ok-turns.ensures past (c.in_ok-unnoticed.ensures.asked s x.limit x.watched.items past at.stands) in
-    let tried = subst (λ (ts : List Turn). AreTried x all past ts c.args.found.now c.try_all.new.found) c.as_slice.ensures.value
-    (c.in_ok-try_all.ensures.tried all h at next) in
-    (c.in_ok-turns.turns.items, whole, tried)
+    let tried = subst (λ (ts : List Turn). AreTried x all past ts c.args.found.now c.try_all-tried.new.found) c.as_slice.ensures.value
+    (h all are at next) in
+    (c.in_ok-turns.turns.items, whole, tried))
+    c.try_all-tried.ensures.tried
