@@ -228,7 +228,9 @@ impl<'a> Question<'a> {
             preemptions,
         )?;
         note(places, hunted.found.failures.as_slice(), fails);
-        self.step_of(alloc, places, &hunted, wanted)
+        let step = self.step_of(alloc, places, &hunted, wanted);
+        drop(hunted);
+        step
     }
 
     /// Hunts for failures of those of which none is known, and notes them.
@@ -319,7 +321,9 @@ impl<'a> Question<'a> {
         let places = left.places.as_slice();
         let searched = search(alloc, self.script, expectations, self.limit, self.most)?;
         note(places, searched.found.failures.as_slice(), fails);
-        self.finished_by(alloc, places, &searched, wanted)
+        let finished = self.finished_by(alloc, places, &searched, wanted);
+        drop(searched);
+        finished
     }
 
     /// Searches all states for failures of those of which none is known, and notes them.

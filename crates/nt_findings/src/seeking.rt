@@ -108,7 +108,9 @@ impl<'a> Question<'a> {
     {
         let expectations = left.expectations.as_slice();
         let searched = search(alloc, self.script, expectations, self.limit, self.most)?;
-        self.goes_on(alloc, left, &searched)
+        let sought = self.goes_on(alloc, left, &searched);
+        drop(searched);
+        sought
     }
 
     /// What is found of `always ends`, where a failure is known of some of the others.

@@ -23,9 +23,9 @@ returns-clause-known c =
 
 pub returns-clause-finished : goal.returns-clause-finished
 returns-clause-finished c =
-    finished_so c.args.self.now c.args.wanted c.note.new.fails.items (is_whole c.in_ok-searched.searched.end) c.finished_by.result
+    finished_so c.args.self.now c.args.wanted c.note.new.fails.items (is_whole c.in_ok-searched.searched.end) c.finished_by-finished.result
     (open_hold c.args.self.now c.args.fails.now.items c.args.fails.now.items c.note.new.fails.items c.args.left.now
     c.as_slice-expectations.result.now c.as_slice-places.result.now c.as_slice.result.now c.in_ok-searched.searched.found.failures.items c.requires.known
     c.requires.left refl c.as_slice-expectations.ensures.value c.as_slice-places.ensures.value c.as_slice.ensures.value
     c.note.ensures (is_whole c.in_ok-searched.searched.end) c.in_ok-searched.ensures.holds)
-    c.finished_by.ensures.whole c.finished_by.ensures.ends c.finished_by.ensures.shown
+    c.finished_by-finished.ensures.whole c.finished_by-finished.ensures.ends c.finished_by-finished.ensures.shown
