@@ -41,7 +41,6 @@ impl<'s> Core<'s> {
     /// events. All memory is taken here.
     ///
     /// The script fits, and `turns` is 1 to 20,000 and at most 160,000 in all processors together.
-    #[tactic(auto, using(crate::proofs::Starting::start_sound))]
     pub fn new(alloc: Global, script: &'s Script, turns: u32) -> Result<Core<'s>, AllocError>
         requires script { IsTrue (fits script.now) }
         requires turns { (1 ≤ turns) × (turns ≤ TURNS) }
@@ -49,9 +48,9 @@ impl<'s> Core<'s> {
         ensures { IfOk result (λ c. c ≡ record { script = script.now; limit = turns; past = [] }) }
     {
         let count = u32::from(script.cpus) * turns;
+        let events = Recorder::new(alloc, count as usize)?;
         let processors = Processors::new(alloc, script, turns)?;
         let floor = PlainFloor::new(alloc, script, turns)?;
-        let events = Recorder::new(alloc, count as usize)?;
         Ok(Core {
             processors,
             floor,

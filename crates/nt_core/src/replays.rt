@@ -72,8 +72,10 @@ pub fn replay(
         Ok(core) => core,
         Err(_) => return Err(ScheduleRefusal::NoMemory),
     };
-    match core.take_all(list) {
-        Ok(()) => Ok(core.finish()),
+    let taken = core.take_all(list);
+    let history = core.finish();
+    match taken {
+        Ok(()) => Ok(history),
         Err(refusal) => Err(refusal),
     }
 }
