@@ -85,8 +85,8 @@ impl<'s> PlainFloor<'s> {
             next: self.next,
             asked: self.asked.copy(alloc)?,
             marks: self.marks.copy(alloc)?,
-            states: self.states.copy(alloc)?,
             told: self.told.copy(alloc)?,
+            states: self.states.copy(alloc)?,
         })
     }
 

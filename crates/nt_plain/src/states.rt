@@ -48,10 +48,10 @@ impl<'s> States<'s> {
         ensures { IfOk result
             (λ x. x ≡ record { script = script.now; lanes = lanes_at script.now [] }) }
     {
+        let locks = Locks::new(alloc, script)?;
         let dpcs = Dpcs::new(alloc, script)?;
         let threads = Threads::new(alloc, script)?;
         let timers = TimerQueue::new(alloc, timer_count(script), script.thread_count())?;
-        let locks = Locks::new(alloc, script)?;
         Ok(States {
             script,
             dpcs,
@@ -67,10 +67,10 @@ impl<'s> States<'s> {
     {
         Ok(States {
             script: self.script,
+            locks: self.locks.copy(alloc)?,
             dpcs: self.dpcs.copy(alloc)?,
             threads: self.threads.copy(alloc)?,
             timers: self.timers.copy(alloc)?,
-            locks: self.locks.copy(alloc)?,
         })
     }
 
