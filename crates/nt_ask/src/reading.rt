@@ -100,7 +100,10 @@ fn with_expectations(
             input,
             expectations,
         }),
-        Err(refusal) => Err(refusal),
+        Err(refusal) => {
+            drop(input);
+            Err(refusal)
+        }
     }
 }
 
@@ -125,10 +128,13 @@ fn script_alone(alloc: Global, bytes: &[u8]) -> AskRefusal
         GivesRead r (two_parts None bytes.now) }
 {
     match read_script(alloc, bytes) {
-        Ok(_) => AskRefusal::Script {
-            line: last_line(bytes),
-            kind: ScriptKind::NoEnd,
-        },
+        Ok(input) => {
+            drop(input);
+            AskRefusal::Script {
+                line: last_line(bytes),
+                kind: ScriptKind::NoEnd,
+            }
+        }
         Err(refusal) => refusal,
     }
 }
