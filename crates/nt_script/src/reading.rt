@@ -62,8 +62,13 @@ fn names_of(alloc: Global, version: u8, bytes: &[u8]) -> Result<Names, AllocErro
     ensures { IfOk result (λ names. names ≡ names_from version no_names (lines bytes.now)) }
 {
     let mut names = Names::new(alloc);
-    note_names(alloc, version, &mut names, bytes)?;
-    Ok(names)
+    match note_names(alloc, version, &mut names, bytes) {
+        Ok(()) => Ok(names),
+        Err(error) => {
+            drop(names);
+            Err(error)
+        }
+    }
 }
 
 impl Walk {
@@ -93,8 +98,13 @@ fn read_with(alloc: Global, version: u8, all: &Names, bytes: &[u8]) -> Result<In
     ensures { GivesRead result (walk all.now (start version) 1 (lines bytes.now)) }
 {
     let mut walk = Walk::new(alloc, version);
-    walk.read_lines(alloc, all, bytes)?;
-    Ok(walk.into_input())
+    match walk.read_lines(alloc, all, bytes) {
+        Ok(()) => Ok(walk.into_input()),
+        Err(refusal) => {
+            drop(walk);
+            Err(refusal)
+        }
+    }
 }
 
 /// Two walks along the lines of a text of this version: one for the names, one for all else.
@@ -103,7 +113,11 @@ fn read_by(alloc: Global, version: u8, bytes: &[u8]) -> Result<Input, ScriptRefu
     ensures { GivesRead result (reading_by version (lines bytes.now)) }
 {
     match names_of(alloc, version, bytes) {
-        Ok(all) => read_with(alloc, version, &all, bytes),
+        Ok(all) => {
+            let input = read_with(alloc, version, &all, bytes);
+            drop(all);
+            input
+        }
         Err(_) => Err(ScriptRefusal::NoMemory),
     }
 }
