@@ -22,12 +22,22 @@ use crate::guest::Guest;
 use crate::lines::happen;
 use std::io;
 
-fn main(rt: HostRuntime) -> io::Result<()> {
-    let mut guest = Guest::new(rt.alloc())?;
+/// One line of the input: what happens in the guest, and what is written of it.
+fn put_line(rt: &HostRuntime, guest: &mut Guest, entry: &str) -> io::Result<()> {
+    let answer = happen(rt.alloc(), guest, entry)?;
+    println!(rt; "{entry}: {answer}, level {}", guest.level().number())
+}
+
+/// All lines of the input.
+fn put_lines(rt: &HostRuntime, guest: &mut Guest) -> io::Result<()> {
     for line in rt.lines(rt.alloc()) {
         let entry = line?;
-        let answer = happen(rt.alloc(), &mut guest, entry.as_str())?;
-        println!(rt; "{entry}: {answer}, level {}", guest.level().number())?;
+        put_line(rt, guest, entry.as_str())?;
     }
     Ok(())
+}
+
+fn main(rt: HostRuntime) -> io::Result<()> {
+    let mut guest = Guest::new(rt.alloc())?;
+    put_lines(&rt, &mut guest)
 }
