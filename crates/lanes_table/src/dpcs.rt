@@ -3,10 +3,11 @@ ghost use Rattle.std.specs.Prelude.{◌≡◌, ◌<◌, ◌+◌, IfOk, IsTrue, O
 ghost use Rattle.nt_event.specs.Replies.{yes_if};
 ghost use Rattle.nt_event.specs.Script.{fits};
 
+use crate::scripts::empty_script;
 use nt_dpc_lanes::Dpcs;
 use nt_event::{
-    Begun, Command, CpuNo, DpcDecl, DpcNo, Importance, Items, Part, Reply, Routine, RoutineNo,
-    Script, ThreadNo, What,
+    Begun, Command, CpuNo, DpcDecl, DpcNo, Importance, Items, Part, Reply, RoutineNo, Script,
+    ThreadNo, What,
 };
 use std::alloc::{AllocError, Global};
 use std::io;
@@ -26,8 +27,16 @@ pub fn answer(rt: HostRuntime, case: &str) -> io::Result<()> {
 /// Writes the answers of a case that begins with the small script.
 fn started(rt: HostRuntime, case: &str) -> io::Result<()> {
     let script = script(rt.alloc(), None)?;
+    started_if_fit(rt, case, &script)
+}
+
+/// Writes the answers of a case that begins with this script, where it fits.
+fn started_if_fit(rt: HostRuntime, case: &str, script: &Script) -> io::Result<()>
+    requires objects { length script.now.dpcs ≡ 3 }
+    requires cpus { script.now.cpus ≡ 2 }
+{
     if script.fits() {
-        started_with(rt, case, &script)
+        started_with(rt, case, script)
     } else {
         println!(rt; "  no fit")
     }
@@ -62,22 +71,7 @@ fn script(alloc: Global, threaded: Option<bool>) -> Result<Script, AllocError>
     ensures cpus { IfOk result (λ s. s.cpus ≡ 2) }
     ensures objects { IfOk result (λ s. length s.dpcs ≡ 3) }
 {
-    let routine = Routine {
-        commands: Items::new(alloc),
-    };
-    let routines = vec![in alloc; routine]?;
-    let mut made = Script {
-        cpus: 2,
-        depth: None,
-        threaded,
-        isrs: Items::new(alloc),
-        dpcs: Items::new(alloc),
-        timers: Items::new(alloc),
-        threads: Items::new(alloc),
-        apcs: Items::new(alloc),
-        routines: Items::from_vec(routines),
-        locks: 0,
-    };
+    let mut made = empty_script(alloc, threaded)?;
     declare(&mut made.dpcs)?;
     Ok(made)
 }
@@ -306,11 +300,7 @@ fn threaded_answer(
     threaded: Option<bool>,
 ) -> Result<Option<(Option<u8>, bool)>, AllocError> {
     let script = script(alloc, threaded)?;
-    if script.fits() {
-        threaded_answer_of(alloc, &script)
-    } else {
-        Ok(None)
-    }
+    threaded_answer_of(alloc, &script)
 }
 
 /// What such an insert answers with this script.
@@ -318,10 +308,12 @@ fn threaded_answer_of(
     alloc: Global,
     script: &Script,
 ) -> Result<Option<(Option<u8>, bool)>, AllocError>
-    requires fits { IsTrue (fits script.now) }
     requires objects { length script.now.dpcs ≡ 3 }
     requires cpus { script.now.cpus ≡ 2 }
 {
+    if !script.fits() {
+        return Ok(None);
+    }
     let mut dpcs = Dpcs::new(alloc, script)?;
     Ok(Some(threaded_insert(&mut dpcs)))
 }

@@ -6,10 +6,12 @@ ghost use Rattle.nt_event.specs.Lists.{table};
 ghost use Rattle.nt_event.specs.Acts.{Found, IsActed, IsMet, IsRefused, StandFits, job_fits};
 ghost use Rattle.nt_floor.specs.Views.{IsTold};
 ghost use Rattle.nt_frame.specs.Changes.{begun, no_frames};
+ghost use Rattle.nt_plain.specs.States.{IsFresh};
 
+use crate::scripts::empty_script;
 use nt_event::{
-    Body, Command, CpuNo, DpcDecl, DpcNo, Event, Items, Job, Level, Routine, RoutineNo, Script,
-    ThreadDecl, ThreadNo, What,
+    Body, Command, CpuNo, DpcDecl, DpcNo, Event, Items, Job, Level, RoutineNo, Script, ThreadDecl,
+    ThreadNo, What,
 };
 use nt_floor::{ActRefusal, Acted, Floor, Seen, Words};
 use nt_frame::{Frames, StandView};
@@ -20,25 +22,51 @@ use std::io;
 /// Writes the answers of a case.
 pub fn answer(rt: HostRuntime, case: &str) -> io::Result<()> {
     let script = script(rt.alloc())?;
+    answer_if_fit(rt, case, &script)
+}
+
+/// Writes the answers of a case of the small script, where it fits.
+fn answer_if_fit(rt: HostRuntime, case: &str, script: &Script) -> io::Result<()>
+    requires cpus { script.now.cpus ≡ 2 }
+    requires objects { length script.now.dpcs ≡ 1 }
+    requires threads { length script.now.threads ≡ 1 }
+{
     if script.fits() {
-        answer_of(rt, case, &script)
+        answer_of(rt, case, script)
     } else {
         println!(rt; "  no fit")
     }
 }
 
-/// Writes the answers of a case of the small script.
+/// Writes the answers of a case of a floor of the small script.
 fn answer_of(rt: HostRuntime, case: &str, script: &Script) -> io::Result<()>
     requires fits { IsTrue (fits script.now) }
     requires cpus { script.now.cpus ≡ 2 }
     requires objects { length script.now.dpcs ≡ 1 }
     requires threads { length script.now.threads ≡ 1 }
 {
+    let mut floor = PlainFloor::new(rt.alloc(), script, 4)?;
+    answer_on(rt, case, script, &mut floor)
+}
+
+/// Writes the answers of a case of this floor.
+fn answer_on(
+    rt: HostRuntime,
+    case: &str,
+    script: &Script,
+    floor: &mut PlainFloor<'_>,
+) -> io::Result<()>
+    requires fits { IsTrue (fits script.now) }
+    requires cpus { script.now.cpus ≡ 2 }
+    requires objects { length script.now.dpcs ≡ 1 }
+    requires threads { length script.now.threads ≡ 1 }
+    requires fresh { IsFresh script.now 4 floor.old }
+{
     match case {
-        "an insert asks its processor" => an_insert_asks(rt, script),
-        "numbers, marks and looks" => words(rt, script),
-        "a thread of another processor is not taken" => a_wrong_choice(rt, script),
-        "nothing to do over a ready thread" => nothing_to_do(rt, script),
+        "an insert asks its processor" => an_insert_asks(rt, script, floor),
+        "numbers, marks and looks" => words(rt, script, floor),
+        "a thread of another processor is not taken" => a_wrong_choice(rt, script, floor),
+        "nothing to do over a ready thread" => nothing_to_do(rt, script, floor),
         _ => println!(rt; "  no such case"),
     }
 }
@@ -49,22 +77,7 @@ fn script(alloc: Global) -> Result<Script, AllocError>
     ensures objects { IfOk result (λ s. length s.dpcs ≡ 1) }
     ensures threads { IfOk result (λ s. length s.threads ≡ 1) }
 {
-    let routine = Routine {
-        commands: Items::new(alloc),
-    };
-    let routines = vec![in alloc; routine]?;
-    let mut made = Script {
-        cpus: 2,
-        depth: None,
-        threaded: None,
-        isrs: Items::new(alloc),
-        dpcs: Items::new(alloc),
-        timers: Items::new(alloc),
-        threads: Items::new(alloc),
-        apcs: Items::new(alloc),
-        routines: Items::from_vec(routines),
-        locks: 0,
-    };
+    let mut made = empty_script(alloc, None)?;
     declare(&mut made.dpcs, &mut made.threads)?;
     Ok(made)
 }
@@ -129,29 +142,35 @@ fn a_rest(cpu: CpuNo) -> Event {
     }
 }
 
-fn an_insert_asks(rt: HostRuntime, script: &Script) -> io::Result<()>
+fn an_insert_asks(rt: HostRuntime, script: &Script, floor: &mut PlainFloor<'_>) -> io::Result<()>
     requires fits { IsTrue (fits script.now) }
     requires cpus { script.now.cpus ≡ 2 }
     requires objects { length script.now.dpcs ≡ 1 }
     requires threads { length script.now.threads ≡ 1 }
+    requires fresh { IsFresh script.now 4 floor.old }
 {
     let frames = frames(rt.alloc(), CpuNo(0))?;
-    insert_over(rt, script, &frames)
+    insert_over(rt, script, floor, &frames)
 }
 
 /// The insert by the innermost of these frames.
-fn insert_over(rt: HostRuntime, script: &Script, frames: &Frames) -> io::Result<()>
+fn insert_over(
+    rt: HostRuntime,
+    script: &Script,
+    floor: &mut PlainFloor<'_>,
+    frames: &Frames,
+) -> io::Result<()>
     requires fits { IsTrue (fits script.now) }
     requires cpus { script.now.cpus ≡ 2 }
     requires objects { length script.now.dpcs ≡ 1 }
     requires threads { length script.now.threads ≡ 1 }
+    requires fresh { IsFresh script.now 4 floor.old }
     requires frames { frames.now ≡ begun 7 (Body.Dpc (record { 0 = 0 })) (no_frames 1) }
 {
-    let mut floor = PlainFloor::new(rt.alloc(), script, 4)?;
     let queue = Command::Queue(DpcNo(0));
     let stand = StandView::new(CpuNo(0), frames, false);
-    let acted = act(&mut floor, Job::Call(queue), &stand);
-    write_insert(rt, acted, &floor)
+    let acted = act(floor, Job::Call(queue), &stand);
+    write_insert(rt, acted, floor)
 }
 
 /// Writes the event that was made, or why none was, and who is asked then.
@@ -202,17 +221,17 @@ fn write_asks(rt: HostRuntime, floor: &PlainFloor<'_>) -> io::Result<()> {
     write_yes(rt, "asks 1", floor.asks(0, CpuNo(1), 2))
 }
 
-fn words(rt: HostRuntime, script: &Script) -> io::Result<()>
+fn words(rt: HostRuntime, script: &Script, floor: &mut PlainFloor<'_>) -> io::Result<()>
     requires fits { IsTrue (fits script.now) }
     requires cpus { script.now.cpus ≡ 2 }
     requires objects { length script.now.dpcs ≡ 1 }
     requires threads { length script.now.threads ≡ 1 }
+    requires fresh { IsFresh script.now 4 floor.old }
 {
-    let mut floor = PlainFloor::new(rt.alloc(), script, 4)?;
     let n = floor.draw(&a_rest(CpuNo(0)));
     floor.mark(CpuNo(1), 3, n);
     let looks = [floor.look(CpuNo(1), 3), floor.look(CpuNo(0), 3)];
-    write_words(rt, &floor, n, looks)
+    write_words(rt, floor, n, looks)
 }
 
 /// Writes the number that was drawn, what the looks at both processors gave, and the marks.
@@ -242,32 +261,38 @@ fn write_made(rt: HostRuntime, acted: Result<Acted, ActRefusal>) -> io::Result<(
     }
 }
 
-fn a_wrong_choice(rt: HostRuntime, script: &Script) -> io::Result<()>
+fn a_wrong_choice(rt: HostRuntime, script: &Script, floor: &mut PlainFloor<'_>) -> io::Result<()>
     requires fits { IsTrue (fits script.now) }
     requires cpus { script.now.cpus ≡ 2 }
     requires objects { length script.now.dpcs ≡ 1 }
     requires threads { length script.now.threads ≡ 1 }
+    requires fresh { IsFresh script.now 4 floor.old }
 {
     let frames = frames(rt.alloc(), CpuNo(0))?;
-    choose_over(rt, script, &frames)
+    choose_over(rt, script, floor, &frames)
 }
 
 /// The choice where these are the frames of processor 0.
-fn choose_over(rt: HostRuntime, script: &Script, frames: &Frames) -> io::Result<()>
+fn choose_over(
+    rt: HostRuntime,
+    script: &Script,
+    floor: &mut PlainFloor<'_>,
+    frames: &Frames,
+) -> io::Result<()>
     requires fits { IsTrue (fits script.now) }
     requires cpus { script.now.cpus ≡ 2 }
     requires objects { length script.now.dpcs ≡ 1 }
     requires threads { length script.now.threads ≡ 1 }
+    requires fresh { IsFresh script.now 4 floor.old }
     requires frames { frames.now ≡ begun 7 (Body.Dpc (record { 0 = 0 })) (no_frames 1) }
 {
-    let mut floor = PlainFloor::new(rt.alloc(), script, 4)?;
     let next = [
         floor.next_ready(CpuNo(1), None),
         floor.next_ready(CpuNo(0), None),
     ];
     let taken = Job::Switch(ThreadNo(0));
     let stand = StandView::new(CpuNo(0), frames, false);
-    write_choice(rt, next, act(&mut floor, taken, &stand))
+    write_choice(rt, next, act(floor, taken, &stand))
 }
 
 /// Writes the ready threads that processors 1 and 0 would take, and what came of a choice.
@@ -281,25 +306,31 @@ fn write_choice(
     write_made(rt, acted)
 }
 
-fn nothing_to_do(rt: HostRuntime, script: &Script) -> io::Result<()>
+fn nothing_to_do(rt: HostRuntime, script: &Script, floor: &mut PlainFloor<'_>) -> io::Result<()>
     requires fits { IsTrue (fits script.now) }
     requires cpus { script.now.cpus ≡ 2 }
     requires objects { length script.now.dpcs ≡ 1 }
     requires threads { length script.now.threads ≡ 1 }
+    requires fresh { IsFresh script.now 4 floor.old }
 {
     let frames = frames(rt.alloc(), CpuNo(1))?;
-    idle_over(rt, script, &frames)
+    idle_over(rt, script, floor, &frames)
 }
 
 /// An idle processor's job where these are the frames of processor 1.
-fn idle_over(rt: HostRuntime, script: &Script, frames: &Frames) -> io::Result<()>
+fn idle_over(
+    rt: HostRuntime,
+    script: &Script,
+    floor: &mut PlainFloor<'_>,
+    frames: &Frames,
+) -> io::Result<()>
     requires fits { IsTrue (fits script.now) }
     requires cpus { script.now.cpus ≡ 2 }
     requires objects { length script.now.dpcs ≡ 1 }
     requires threads { length script.now.threads ≡ 1 }
+    requires fresh { IsFresh script.now 4 floor.old }
     requires frames { frames.now ≡ begun 7 (Body.Dpc (record { 0 = 0 })) (no_frames 1) }
 {
-    let mut floor = PlainFloor::new(rt.alloc(), script, 4)?;
     let stand = StandView::new(CpuNo(1), frames, false);
-    write_made(rt, act(&mut floor, Job::Idle, &stand))
+    write_made(rt, act(floor, Job::Idle, &stand))
 }

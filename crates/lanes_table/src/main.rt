@@ -6,6 +6,7 @@
 
 mod dpcs;
 mod floor;
+mod scripts;
 mod threads;
 
 use std::io;

@@ -3,9 +3,10 @@ ghost use Rattle.std.specs.Prelude.{◌≡◌, ◌<◌, IsTrue, None, length};
 ghost use Rattle.nt_event.specs.declared.events.What.TheVariants.{Call};
 ghost use Rattle.nt_event.specs.Script.{fits, has_apc, has_thread};
 
+use crate::scripts::empty_script;
 use nt_event::{
     ApcDecl, ApcKind, ApcNo, Command, CpuNo, Event, Items, Level, Mode, Pick, Regions, Reply,
-    Routine, RoutineNo, Script, ThreadDecl, ThreadNo, What,
+    RoutineNo, Script, ThreadDecl, ThreadNo, What,
 };
 use nt_frame::{Frames, StandView};
 use nt_states::ThreadAnswers;
@@ -16,8 +17,13 @@ use std::io;
 /// Writes the answers of a case.
 pub fn answer(rt: HostRuntime, case: &str) -> io::Result<()> {
     let script = script(rt.alloc())?;
+    answer_if_fit(rt, case, &script)
+}
+
+/// Writes the answers of a case of the small script, where it fits.
+fn answer_if_fit(rt: HostRuntime, case: &str, script: &Script) -> io::Result<()> {
     if script.fits() && script.threads.len() == 3 && script.apcs.len() == 2 {
-        answer_of(rt, case, &script)
+        answer_of(rt, case, script)
     } else {
         println!(rt; "  no fit")
     }
@@ -103,22 +109,7 @@ fn normal_apc(kind: ApcKind) -> ApcDecl {
 /// The first and the last thread on processor 0, the second on processor 1; a normal kernel APC and
 /// a user APC of the first.
 fn script(alloc: Global) -> Result<Script, AllocError> {
-    let routine = Routine {
-        commands: Items::new(alloc),
-    };
-    let routines = vec![in alloc; routine]?;
-    let mut made = Script {
-        cpus: 2,
-        depth: None,
-        threaded: None,
-        isrs: Items::new(alloc),
-        dpcs: Items::new(alloc),
-        timers: Items::new(alloc),
-        threads: Items::new(alloc),
-        apcs: Items::new(alloc),
-        routines: Items::from_vec(routines),
-        locks: 0,
-    };
+    let mut made = empty_script(alloc, None)?;
     declare(&mut made.threads, &mut made.apcs)?;
     Ok(made)
 }
