@@ -20,7 +20,10 @@ fn number(alloc: Global, input: &Input, text: &[u8]) -> Option<u8>
         return None;
     }
     match read_expectations(alloc, input, text, 7) {
-        Ok(_) => Some(0),
+        Ok(found) => {
+            drop(found);
+            Some(0)
+        }
         Err(ExpectRefusal::Bad { line: 8, kind }) => Some(kind.number()),
         Err(_) => None,
     }
@@ -39,7 +42,11 @@ fn put_number(rt: &HostRuntime, input: &Input, entry: &str, text: &[u8]) -> io::
 /// Writes what is wrong with a line of the table, of which the text is.
 fn put_read(rt: &HostRuntime, entry: &str, text: &[u8]) -> io::Result<()> {
     match read(rt.alloc(), SCRIPT.as_bytes()) {
-        Ok(input) => put_number(rt, &input, entry, text),
+        Ok(input) => {
+            let written = put_number(rt, &input, entry, text);
+            drop(input);
+            written
+        }
         Err(_) => println!(rt; "no script"),
     }
 }

@@ -9,7 +9,9 @@ use std::io;
 /// The text of the load of a seed.
 fn load_text(alloc: Global, seed: u32) -> Result<Vec<u8>, AllocError> {
     let input = load_script(alloc, seed)?;
-    print(alloc, &input)
+    let text = print(alloc, &input);
+    drop(input);
+    text
 }
 
 /// Writes the length and the digest of a seed's text.

@@ -4,6 +4,9 @@
 //! A line of the input that begins with `== ` is a heading and is written again: it says what the
 //! cases below it are. Each other line is a case, for which one line is written. What is wanted is
 //! in `stdout`: it comes from outside this program.
+//!
+//! What a case reads is let go by a call of `drop`: that is proved far sooner than a function at
+//! whose end all parts of a script go.
 #![tactic(auto)]
 
 mod expectations;
@@ -53,18 +56,28 @@ fn put_case(rt: &HostRuntime, part: Part, row: &mut String, entry: &str) -> io::
     }
 }
 
-fn main(rt: HostRuntime) -> io::Result<()> {
-    let mut row = String::new(rt.alloc());
+/// A line of the input, which is a heading or a case of the part.
+fn put_line(rt: &HostRuntime, part: &mut Part, row: &mut String, entry: &str) -> io::Result<()> {
+    match heading(entry) {
+        Some(next) => {
+            *part = next;
+            println!(rt; "{entry}")
+        }
+        None => put_case(rt, *part, row, entry),
+    }
+}
+
+/// All lines of the input.
+fn put_lines(rt: &HostRuntime, row: &mut String) -> io::Result<()> {
     let mut part = Part::Texts;
     for line in rt.lines(rt.alloc()) {
         let entry = line?;
-        match heading(entry.as_str()) {
-            Some(next) => {
-                part = next;
-                println!(rt; "{entry}")?;
-            }
-            None => put_case(&rt, part, &mut row, entry.as_str())?,
-        }
+        put_line(rt, &mut part, row, entry.as_str())?;
     }
     Ok(())
+}
+
+fn main(rt: HostRuntime) -> io::Result<()> {
+    let mut row = String::new(rt.alloc());
+    put_lines(&rt, &mut row)
 }

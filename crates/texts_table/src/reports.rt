@@ -40,7 +40,11 @@ fn report_again(
         return Ok(Outcome::Differs);
     }
     match read_report(alloc, input, text, first_line) {
-        Ok(history) => printed_again(alloc, input, &history, text),
+        Ok(history) => {
+            let outcome = printed_again(alloc, input, &history, text);
+            drop(history);
+            outcome
+        }
         Err(refusal) => Ok(Outcome::Refused(refusal)),
     }
 }
@@ -58,7 +62,11 @@ fn report_case(rt: &HostRuntime, first_line: u32, script: &[u8], text: &[u8]) ->
         return println!(rt; "too long");
     }
     match read(rt.alloc(), script) {
-        Ok(input) => put_report(rt, &input, text, first_line),
+        Ok(input) => {
+            let written = put_report(rt, &input, text, first_line);
+            drop(input);
+            written
+        }
         Err(_) => println!(rt; "no script"),
     }
 }
@@ -90,7 +98,11 @@ fn summary_of(alloc: Global, input: &Input, text: &[u8]) -> Result<Option<Vec<u8
     requires bytes { length text.now ≤ INPUT_LIMIT }
 {
     match read_report(alloc, input, text, 1) {
-        Ok(history) => Ok(Some(summary(alloc, &input.script, &history)?)),
+        Ok(history) => {
+            let lines = summary(alloc, &input.script, &history);
+            drop(history);
+            Ok(Some(lines?))
+        }
         Err(_) => Ok(None),
     }
 }
@@ -122,7 +134,11 @@ fn summary_case(rt: &HostRuntime, script: &[u8], text: &[u8]) -> io::Result<()> 
         return println!(rt; "too long");
     }
     match read(rt.alloc(), script) {
-        Ok(input) => put_summary_of(rt, &input, text),
+        Ok(input) => {
+            let written = put_summary_of(rt, &input, text);
+            drop(input);
+            written
+        }
         Err(_) => println!(rt; "no script"),
     }
 }

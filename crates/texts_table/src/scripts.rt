@@ -70,7 +70,11 @@ fn read_again(alloc: Global, text: &[u8]) -> Result<Outcome, AllocError> {
         return Ok(Outcome::Differs);
     }
     match read(alloc, text) {
-        Ok(input) => printed_again(alloc, &input, text),
+        Ok(input) => {
+            let outcome = printed_again(alloc, &input, text);
+            drop(input);
+            outcome
+        }
         Err(refusal) => Ok(Outcome::Refused(refusal)),
     }
 }
@@ -102,7 +106,11 @@ fn schedule_again(
         return Ok(Outcome::Differs);
     }
     match read_schedule(alloc, input, text, first_line) {
-        Ok(schedule) => schedule_printed_again(alloc, input, &schedule, text),
+        Ok(schedule) => {
+            let outcome = schedule_printed_again(alloc, input, &schedule, text);
+            drop(schedule);
+            outcome
+        }
         Err(refusal) => Ok(Outcome::Refused(refusal)),
     }
 }
@@ -146,7 +154,11 @@ fn schedule_case(rt: &HostRuntime, number: &str, script: &[u8], schedule: &[u8])
         return println!(rt; "too long");
     }
     match read(rt.alloc(), script) {
-        Ok(input) => put_schedule(rt, &input, schedule, first_line),
+        Ok(input) => {
+            let written = put_schedule(rt, &input, schedule, first_line);
+            drop(input);
+            written
+        }
         Err(_) => println!(rt; "no script"),
     }
 }
@@ -241,7 +253,11 @@ fn find_case(rt: &HostRuntime, name: &str, text: &[u8]) -> io::Result<()> {
         return println!(rt; "too long");
     }
     match read(rt.alloc(), text) {
-        Ok(input) => put_named(rt, &input.names, name),
+        Ok(input) => {
+            let written = put_named(rt, &input.names, name);
+            drop(input);
+            written
+        }
         Err(_) => println!(rt; "no script"),
     }
 }

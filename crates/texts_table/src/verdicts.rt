@@ -62,7 +62,11 @@ fn verdict(alloc: Global, input: &Input, report: &[u8]) -> Result<Answer, AllocE
     requires bytes { length report.now ≤ INPUT_LIMIT }
 {
     match read_report(alloc, input, report, 1) {
-        Ok(history) => Ok(Answer::Checked(check(alloc, &input.script, &history)?)),
+        Ok(history) => {
+            let verdict = check(alloc, &input.script, &history);
+            drop(history);
+            Ok(Answer::Checked(verdict?))
+        }
         Err(_) => Ok(Answer::NoReading),
     }
 }
@@ -73,7 +77,11 @@ fn text_answer(alloc: Global, script: &[u8], report: &[u8]) -> Result<Answer, Al
         return Ok(Answer::NoReading);
     }
     match read(alloc, script) {
-        Ok(input) => verdict(alloc, &input, report),
+        Ok(input) => {
+            let answer = verdict(alloc, &input, report);
+            drop(input);
+            answer
+        }
         Err(_) => Ok(Answer::NoReading),
     }
 }
