@@ -96,7 +96,7 @@ fn a_friendly_text_means_a_strict_one(rt: HostRuntime) -> Result<(), Fail> {
 
 #[test]
 fn a_level_is_replaced_where_it_stands(rt: HostRuntime) -> Result<(), Fail> {
-    for (line, strict) in LINES {
+    for (line, strict) in &LINES {
         assert!(rt; line.len() <= INPUT_LIMIT);
         let numbers: &[u32] = if strict.is_empty() { &[] } else { &[1] };
         assert!(rt;
