@@ -216,6 +216,9 @@ pub fn shown_run(alloc: Global, strict: &[u8], how: How) -> Result<ShownRun, Sho
     let input = input_of(alloc, script_part(strict))?;
     match run_in(alloc, &input, strict, behind, how) {
         Ok(gone) => Ok(ShownRun { input, gone }),
-        Err(refusal) => Err(refusal),
+        Err(refusal) => {
+            drop(input);
+            Err(refusal)
+        }
     }
 }
