@@ -131,7 +131,11 @@ fn drawn(alloc: Global, script: &str, report: &str, wish: Wish) -> Result<Vec<u8
         return Err(ScriptRefusal::NoMemory);
     }
     match read(alloc, script.as_bytes()) {
-        Ok(input) => draw_input(alloc, &input, report, wish),
+        Ok(input) => {
+            let drawn = draw_input(alloc, &input, report, wish);
+            drop(input);
+            drawn
+        }
         Err(refusal) => Err(refusal),
     }
 }

@@ -12,18 +12,31 @@ use std::test::Fail;
 /// A thread makes a note: its events are the switch, the note, the end, that it is gone, and rest.
 const SCRIPT: &str = "cpus 1\nthread main 0 body\nroutine body\nnote 1\nexit\n";
 
-/// How many events the run has that the script shows with this behind it, and how far a schedule
-/// went; or why it shows none.
+/// How many events the run has that a text shows, and how far a schedule went; or why it shows
+/// none.
+fn shown_of(alloc: Global, text: &[u8], how: How) -> Result<(usize, Went), ShownRefusal>
+    requires { IsHow how }
+{
+    if text.len() > INPUT_LIMIT {
+        return Err(ShownRefusal::NoMemory);
+    }
+    match shown_run(alloc, text, how) {
+        Ok(run) => {
+            let found = (run.gone.history.len(), run.gone.went);
+            drop(run);
+            Ok(found)
+        }
+        Err(refusal) => Err(refusal),
+    }
+}
+
+/// The same of the script with this behind it.
 fn shown(alloc: Global, behind: &str, how: How) -> Result<(usize, Went), ShownRefusal>
     requires { IsHow how }
 {
     let mut text = SCRIPT.as_bytes().to_vec(alloc)?;
     text.extend_from_slice(behind.as_bytes())?;
-    if text.as_slice().len() > INPUT_LIMIT {
-        return Err(ShownRefusal::NoMemory);
-    }
-    let run = shown_run(alloc, text.as_slice(), how)?;
-    Ok((run.gone.history.len(), run.gone.went))
+    shown_of(alloc, text.as_slice(), how)
 }
 
 /// Whether the script shows a run of five events with this behind it.

@@ -142,18 +142,31 @@ fn runs(alloc: Global, input: &Input, limit: u32, wanted: &str) -> Result<bool, 
     shows(alloc, input, &history, wanted)
 }
 
-/// Whether the run of a script by the robin rule has this view. Each processor may make 2 events
+/// Whether the run of an input by the robin rule has this view. Each processor may make 2 events
 /// where it is to be cut, else 100.
+fn runs_to(alloc: Global, input: &Input, cut: bool, wanted: &str) -> Result<bool, Fail>
+    requires { IsSound input.now }
+{
+    let _cpus = input.script.cpus;
+    if cut {
+        runs(alloc, input, 2, wanted)
+    } else {
+        runs(alloc, input, 100, wanted)
+    }
+}
+
+/// The same of a script.
 fn has_view(alloc: Global, script: &str, cut: bool, wanted: &str) -> Result<bool, Fail> {
     if script.len() > INPUT_LIMIT {
         return Ok(false);
     }
-    let input = read(alloc, script.as_bytes())?;
-    let _cpus = input.script.cpus;
-    if cut {
-        runs(alloc, &input, 2, wanted)
-    } else {
-        runs(alloc, &input, 100, wanted)
+    match read(alloc, script.as_bytes()) {
+        Ok(input) => {
+            let found = runs_to(alloc, &input, cut, wanted);
+            drop(input);
+            found
+        }
+        Err(_) => Ok(false),
     }
 }
 

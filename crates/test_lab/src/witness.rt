@@ -72,25 +72,52 @@ fn is_list(given: &Turns, wanted: &[Turn]) -> bool {
     !walk.next(&mut turn)
 }
 
+/// Whether behind the row's first two turns its script has a schedule of this turn limit and these
+/// turns.
+fn leads_to(
+    alloc: Global,
+    script: &Script,
+    endless: bool,
+    turns: u32,
+    wanted: &[Turn],
+) -> Result<bool, AllocError>
+    requires { script.now ≡ row }
+{
+    let given = [SWITCH, NEXT];
+    let found = witness(alloc, script, &given, endless)?;
+    Ok(matches!(&found, Some(w) if w.turns == turns && is_list(&w.list, wanted)))
+}
+
+/// The same of a script that is made for it.
+fn is_completed(
+    alloc: Global,
+    endless: bool,
+    turns: u32,
+    wanted: &[Turn],
+) -> Result<bool, AllocError> {
+    match script(alloc) {
+        Ok(script) => {
+            let found = leads_to(alloc, &script, endless, turns, wanted);
+            drop(script);
+            found
+        }
+        Err(error) => Err(error),
+    }
+}
+
 /// Nine more turns come, and then the processor rests.
 #[test]
 fn two_turns_are_completed(rt: HostRuntime) -> Result<(), AllocError> {
-    let script = script(rt.alloc())?;
-    let given = [SWITCH, NEXT];
-    let found = witness(rt.alloc(), &script, &given, false)?;
     let wanted = [
         SWITCH, NEXT, NEXT, NEXT, NEXT, NEXT, NEXT, NEXT, NEXT, NEXT, NEXT,
     ];
-    assert!(rt; matches!(&found, Some(w) if w.turns == 10_000 && is_list(&w.list, &wanted)));
+    assert!(rt; is_completed(rt.alloc(), false, 10_000, &wanted)?);
     Ok(())
 }
 
 /// The processor is cut at once.
 #[test]
 fn an_endless_run_has_the_least_limit(rt: HostRuntime) -> Result<(), AllocError> {
-    let script = script(rt.alloc())?;
-    let given = [SWITCH, NEXT];
-    let found = witness(rt.alloc(), &script, &given, true)?;
-    assert!(rt; matches!(&found, Some(w) if w.turns == 2 && is_list(&w.list, &given)));
+    assert!(rt; is_completed(rt.alloc(), true, 2, &[SWITCH, NEXT])?);
     Ok(())
 }

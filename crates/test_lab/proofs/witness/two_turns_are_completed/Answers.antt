@@ -1,5 +1,0 @@
-use Rattle.nt_witness.proofs.RowLeads.{first_turns_lead}
-use Rattle.test_lab.proofs.witness.two_turns_are_completed.Goals as goal
-
-pub witness-requires-clause-lead : goal.witness-requires-clause-lead
-witness-requires-clause-lead g c = first_turns_lead _ c.in_ok-script.ensures
