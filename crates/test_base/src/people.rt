@@ -308,8 +308,8 @@ const OTHERS: [Case; 16] = [
         4,
         Fault::Report(ScriptKind::WrongKind),
         "4:1: not of the kind that stands here\n    4 | 3 p0 a 0 gone a\n      | ^\nthe number of \
-         an event is one more than that of the line before it, a name is one of the kind that stands \
-         here, and a reply one that the command gives\n",
+         an event is one more than that of the line before it, a name is one of the kind that \
+         stands here, and a reply one that the command gives\n",
     ),
 ];
 

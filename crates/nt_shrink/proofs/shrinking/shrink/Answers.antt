@@ -38,7 +38,8 @@ returns-clause-ok c =
     let t : c.delivers-is_delivered.result ≡ true = (let y = c.if-not-is_delivered.false in cc) in
     let none : c.in_ok-shorter.field-0 ≡ None = (let i = c.in_default.is in cc) in
     let end = done c.args.script.now c.args.turns c.args.goal c.args.list.now c.loop-short.short c.in_ok-shorter.field-0 c.in_ok-history.history.events
-    c.delivers-is_delivered.result (omega (arith, a, b)) c.in_ok-history.ensures.ok c.delivers-is_delivered.ensures t c.loop-short.invariant c.in_ok-shorter.ensures none in
+    c.delivers-is_delivered.result (omega (arith, a, b)) c.in_ok-history.ensures.ok c.delivers-is_delivered.ensures t
+    c.loop-short.invariant c.in_ok-shorter.ensures none in
     end.shrunk_is
 
 pub returns-clause-delivers : goal.returns-clause-delivers
@@ -48,7 +49,8 @@ returns-clause-delivers c =
     let t : c.delivers-is_delivered.result ≡ true = (let y = c.if-not-is_delivered.false in cc) in
     let none : c.in_ok-shorter.field-0 ≡ None = (let i = c.in_default.is in cc) in
     let end = done c.args.script.now c.args.turns c.args.goal c.args.list.now c.loop-short.short c.in_ok-shorter.field-0 c.in_ok-history.history.events
-    c.delivers-is_delivered.result (omega (arith, a, b)) c.in_ok-history.ensures.ok c.delivers-is_delivered.ensures t c.loop-short.invariant c.in_ok-shorter.ensures none in
+    c.delivers-is_delivered.result (omega (arith, a, b)) c.in_ok-history.ensures.ok c.delivers-is_delivered.ensures t
+    c.loop-short.invariant c.in_ok-shorter.ensures none in
     end.delivery_is
 
 pub returns-clause-none_spare : goal.returns-clause-none_spare
@@ -58,5 +60,6 @@ returns-clause-none_spare c =
     let t : c.delivers-is_delivered.result ≡ true = (let y = c.if-not-is_delivered.false in cc) in
     let none : c.in_ok-shorter.field-0 ≡ None = (let i = c.in_default.is in cc) in
     let end = done c.args.script.now c.args.turns c.args.goal c.args.list.now c.loop-short.short c.in_ok-shorter.field-0 c.in_ok-history.history.events
-    c.delivers-is_delivered.result (omega (arith, a, b)) c.in_ok-history.ensures.ok c.delivers-is_delivered.ensures t c.loop-short.invariant c.in_ok-shorter.ensures none in
+    c.delivers-is_delivered.result (omega (arith, a, b)) c.in_ok-history.ensures.ok c.delivers-is_delivered.ensures t
+    c.loop-short.invariant c.in_ok-shorter.ensures none in
     end.none_spare
