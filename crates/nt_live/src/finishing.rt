@@ -134,5 +134,7 @@ pub(crate) fn finished(
 {
     let mut processors = Processors::new(alloc, script, turns)?;
     let mut floor = PlainFloor::new(alloc, script, turns)?;
-    finished_by(&mut processors, &mut floor, events)
+    let history = finished_by(&mut processors, &mut floor, events);
+    drop(floor);
+    history
 }
