@@ -14,3 +14,4 @@ mod SpinRows
 mod Blocks
 mod Passed
 mod Versions
+mod FieldsPut
