@@ -126,13 +126,15 @@ pub(crate) fn turned_beside<R: Threads + Wait + Sync>(
         flags: &flags,
         looks,
     };
-    let turned = turn_beside::<Brand, R>(rt, alloc, script, limit, made, which, lane, gate)?;
-    Ok(turn_seen(turned, &flags))
+    let turned = turn_beside::<Brand, R>(rt, alloc, script, limit, made, which, lane, gate);
+    let seen = turn_seen(turned, &flags);
+    drop(flags);
+    seen
 }
 
 /// What is seen of a turn that was made or refused while a lane was held.
-fn turn_seen(made: bool, flags: &Flags) -> &'static str {
-    if !made {
+fn turn_seen(made: Result<bool, AllocError>, flags: &Flags) -> Result<&'static str, AllocError> {
+    Ok(if !made? {
         "the turn was refused"
     } else if flags.ready.was_missed() || flags.first.was_missed() {
         "the lane wasn't held first"
@@ -140,7 +142,7 @@ fn turn_seen(made: bool, flags: &Flags) -> &'static str {
         "the turn waited for the lane"
     } else {
         "the turn was made meanwhile"
-    }
+    })
 }
 
 /// A thread holds a lane, and another holds a second one.

@@ -13,6 +13,9 @@
 //! `next`: processor 0 makes its second event while a lane is held. `cross`: two processors wait at
 //! a gate for each other once each has a lock that the other wants. `wake`: one asks another for
 //! something when that one rests. What is wanted stands in `stdout`.
+//!
+//! What a case makes is let go by a call of `drop`: that is proved far sooner than a function at
+//! whose end all parts of a script or a history go.
 #![tactic(auto)]
 
 mod beginning;

@@ -80,7 +80,11 @@ fn text_seen<R: Threads + Wait + Sync>(
         return Ok("no script");
     }
     match read(alloc, text) {
-        Ok(input) => script_seen(rt, alloc, case, &input.script),
+        Ok(input) => {
+            let seen = script_seen(rt, alloc, case, &input.script);
+            drop(input);
+            seen
+        }
         Err(ScriptRefusal::Bad { .. }) => Ok("no script"),
         Err(ScriptRefusal::NoMemory) => Err(AllocError),
     }
@@ -105,7 +109,11 @@ fn named_seen<R: Threads + Wait + Sync>(
     name: &str,
 ) -> Result<&'static str, AllocError> {
     match script_of(alloc, name)? {
-        Some(script) => script_seen(rt, alloc, case, &script),
+        Some(script) => {
+            let seen = script_seen(rt, alloc, case, &script);
+            drop(script);
+            seen
+        }
         None => Ok("no script"),
     }
 }
@@ -118,7 +126,9 @@ fn load_seen<R: Threads + Wait + Sync>(
     seed: u32,
 ) -> Result<&'static str, AllocError> {
     let input = load_script(alloc, seed)?;
-    script_seen(rt, alloc, case, &input.script)
+    let seen = script_seen(rt, alloc, case, &input.script);
+    drop(input);
+    seen
 }
 
 /// What is seen of the case, with this script, in which `/` stands for the end of a line; or with

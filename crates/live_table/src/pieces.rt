@@ -85,7 +85,9 @@ pub(crate) fn all_worked<R: Wait>(
     requires all { script.now.cpus * limit ≤ EVENTS }
 {
     let history = history(rt, alloc, script, limit, script.cpus)?;
-    judged(alloc, script, &history)
+    let seen = judged(alloc, script, &history);
+    drop(history);
+    seen
 }
 
 /// How many events of processor 0 stand before all others.
@@ -137,5 +139,7 @@ pub(crate) fn first_worked<R: Wait>(
     requires all { script.now.cpus * limit ≤ EVENTS }
 {
     let history = history(rt, alloc, script, limit, 1)?;
-    judged_first(alloc, script, &history)
+    let seen = judged_first(alloc, script, &history);
+    drop(history);
+    seen
 }

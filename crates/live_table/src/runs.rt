@@ -28,8 +28,11 @@ pub(crate) fn met<R: Threads + Wait + Sync>(
     requires all { script.now.cpus * limit ≤ EVENTS }
 {
     let flags = Flags::new();
-    let _history = live(rt, alloc, script, limit, &Meeting { flags: &flags })?;
-    Ok(if flags.all_seen() {
+    let ran = live(rt, alloc, script, limit, &Meeting { flags: &flags });
+    let met = flags.all_seen();
+    drop(flags);
+    drop(ran?);
+    Ok(if met {
         "both passed at once"
     } else {
         "they didn't meet"
@@ -58,9 +61,9 @@ fn is_later(events: &[Brief]) -> bool {
     }
 }
 
-/// What is seen where processor 0 waited for processor 1.
-fn follow_seen(flags: &Flags, history: &History) -> &'static str {
-    if !flags.all_seen() {
+/// What is seen where processor 0 waited for processor 1, and all flags were seen or not.
+fn follow_seen(all_seen: bool, history: &History) -> &'static str {
+    if !all_seen {
         "it didn't see the other"
     } else if is_later(history.lend().briefs) {
         "its second event is behind the other's fifth"
@@ -81,8 +84,13 @@ pub(crate) fn followed<R: Threads + Wait + Sync>(
     requires all { script.now.cpus * limit ≤ EVENTS }
 {
     let flags = Flags::new();
-    let history = live(rt, alloc, script, limit, &Following { flags: &flags })?;
-    Ok(follow_seen(&flags, &history))
+    let ran = live(rt, alloc, script, limit, &Following { flags: &flags });
+    let all_seen = flags.all_seen();
+    drop(flags);
+    let history = ran?;
+    let seen = follow_seen(all_seen, &history);
+    drop(history);
+    Ok(seen)
 }
 
 /// Processor 0 asks processor 1 for something when processor 1 rests, and has nothing more to do in
@@ -98,8 +106,11 @@ pub(crate) fn woken<R: Threads + Wait + Sync>(
     requires all { script.now.cpus * limit ≤ EVENTS }
 {
     let flags = Flags::new();
-    let _history = live(rt, alloc, script, limit, &Resting { flags: &flags })?;
-    Ok(if flags.second.is_set() {
+    let ran = live(rt, alloc, script, limit, &Resting { flags: &flags });
+    let woke = flags.second.is_set();
+    drop(flags);
+    drop(ran?);
+    Ok(if woke {
         "it worked in a later round"
     } else {
         "it didn't work again"
@@ -125,9 +136,9 @@ fn spins_at_last(history: &History, cpu: CpuNo) -> bool {
     spins
 }
 
-/// What is seen where each had a lock that the other wanted.
-fn cross_seen(flags: &Flags, history: &History) -> &'static str {
-    if !flags.all_seen() {
+/// What is seen where each had a lock that the other wanted, and all flags were seen or not.
+fn cross_seen(all_seen: bool, history: &History) -> &'static str {
+    if !all_seen {
         "they didn't meet"
     } else if spins_at_last(history, CpuNo(0)) && spins_at_last(history, CpuNo(1)) {
         "both spin still"
@@ -149,8 +160,13 @@ pub(crate) fn crossed<R: Threads + Wait + Sync>(
     requires all { script.now.cpus * limit ≤ EVENTS }
 {
     let flags = Flags::new();
-    let history = live(rt, alloc, script, limit, &Crossing { flags: &flags })?;
-    Ok(cross_seen(&flags, &history))
+    let ran = live(rt, alloc, script, limit, &Crossing { flags: &flags });
+    let all_seen = flags.all_seen();
+    drop(flags);
+    let history = ran?;
+    let seen = cross_seen(all_seen, &history);
+    drop(history);
+    Ok(seen)
 }
 
 /// Whether the histories have the same events, in all their fields.
@@ -174,11 +190,15 @@ fn replay_seen(
     history: &History,
 ) -> Result<&'static str, AllocError> {
     match again {
-        Ok(again) => Ok(if have_same_events(&again, history) {
-            "legal, and its turns give it again"
-        } else {
-            "its turns give another history"
-        }),
+        Ok(again) => {
+            let same = have_same_events(&again, history);
+            drop(again);
+            Ok(if same {
+                "legal, and its turns give it again"
+            } else {
+                "its turns give another history"
+            })
+        }
         Err(ScheduleRefusal::Bad { .. }) => Ok("its turns are refused"),
         Err(ScheduleRefusal::NoMemory) => Err(AllocError),
     }
@@ -192,6 +212,7 @@ fn replayed(alloc: Global, script: &Script, history: &History) -> Result<&'stati
 {
     let schedule = turns_of(alloc, history)?;
     let again = replay(alloc, script, history.turns(), &schedule.list);
+    drop(schedule);
     replay_seen(again, history)
 }
 
@@ -223,5 +244,7 @@ pub(crate) fn lived<R: Threads + Wait + Sync>(
     requires all { script.now.cpus * limit ≤ EVENTS }
 {
     let history = live(rt, alloc, script, limit, &OpenGate)?;
-    judged(alloc, script, &history)
+    let seen = judged(alloc, script, &history);
+    drop(history);
+    seen
 }
