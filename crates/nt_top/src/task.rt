@@ -185,7 +185,10 @@ fn with_schedule(alloc: Global, input: Input, rest: &[u8], line: u32) -> Result<
 {
     match read_schedule(alloc, &input, rest, line) {
         Ok(schedule) => Ok(Task::Replay { input, schedule }),
-        Err(refusal) => Err(refusal),
+        Err(refusal) => {
+            drop(input);
+            Err(refusal)
+        }
     }
 }
 
@@ -199,7 +202,10 @@ fn with_report(alloc: Global, input: Input, rest: &[u8], line: u32) -> Result<Ta
 {
     match read_report(alloc, &input, rest, line) {
         Ok(history) => Ok(Task::Check { input, history }),
-        Err(refusal) => Err(refusal),
+        Err(refusal) => {
+            drop(input);
+            Err(refusal)
+        }
     }
 }
 
@@ -223,7 +229,10 @@ fn to_shrink(
             schedule,
             goal,
         }),
-        Err(refusal) => Err(refusal),
+        Err(refusal) => {
+            drop(input);
+            Err(refusal)
+        }
     }
 }
 
@@ -268,10 +277,13 @@ fn without_tail(alloc: Global, bytes: &[u8]) -> ScriptRefusal
         GivesRead r (two_parts t None bytes.now) }
 {
     match read(alloc, bytes) {
-        Ok(_) => ScriptRefusal::Bad {
-            line: last_line(bytes),
-            kind: ScriptKind::NoEnd,
-        },
+        Ok(input) => {
+            drop(input);
+            ScriptRefusal::Bad {
+                line: last_line(bytes),
+                kind: ScriptKind::NoEnd,
+            }
+        }
         Err(refusal) => refusal,
     }
 }
