@@ -151,7 +151,10 @@ pub(crate) fn changed_verdict(
     requires few { limit ≤ TURNS }
 {
     let history = run(alloc, &input.script, limit)?;
-    let events = changed_events(alloc, &history, &change)?;
-    let changed = History::new(changed_turns(limit, &change), events);
-    check(alloc, &input.script, &changed)
+    let events = changed_events(alloc, &history, &change);
+    drop(history);
+    let changed = History::new(changed_turns(limit, &change), events?);
+    let verdict = check(alloc, &input.script, &changed);
+    drop(changed);
+    verdict
 }

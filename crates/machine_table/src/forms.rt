@@ -48,7 +48,9 @@ pub(crate) fn ran(alloc: Global, input: &Input, limit: u32) -> Result<Outcome, A
     requires few { limit ≤ TURNS }
 {
     let history = run(alloc, &input.script, limit)?;
-    Ok(Outcome::Report(report(alloc, input, &history)?))
+    let text = report(alloc, input, &history);
+    drop(history);
+    Ok(Outcome::Report(text?))
 }
 
 /// The history of the run is changed as the words say, and checked.
@@ -76,7 +78,11 @@ fn taken(alloc: Global, input: &Input, schedule: &Schedule) -> Result<Outcome, A
         (schedule.now.turns ≤ turn_bound input.now.script.cpus) }
 {
     match replay(alloc, &input.script, schedule.turns, &schedule.list) {
-        Ok(history) => Ok(Outcome::Report(report(alloc, input, &history)?)),
+        Ok(history) => {
+            let text = report(alloc, input, &history);
+            drop(history);
+            Ok(Outcome::Report(text?))
+        }
         Err(ScheduleRefusal::Bad { .. }) => Ok(Outcome::NoHistory),
         Err(ScheduleRefusal::NoMemory) => Err(AllocError),
     }
@@ -92,7 +98,11 @@ pub(crate) fn replayed(alloc: Global, input: &Input, text: &[u8]) -> Result<Outc
     };
     let (_, rest) = text.split_at(split.at);
     match read_schedule(alloc, input, rest, 1) {
-        Ok(schedule) => taken(alloc, input, &schedule),
+        Ok(schedule) => {
+            let outcome = taken(alloc, input, &schedule);
+            drop(schedule);
+            outcome
+        }
         Err(_) => Ok(Outcome::NoHistory),
     }
 }
@@ -103,7 +113,11 @@ pub(crate) fn checked(alloc: Global, input: &Input, text: &[u8]) -> Result<Outco
     requires bytes { length text.now ≤ INPUT_LIMIT }
 {
     match read_report(alloc, input, text, 1) {
-        Ok(history) => Ok(Outcome::Checked(check(alloc, &input.script, &history)?)),
+        Ok(history) => {
+            let verdict = check(alloc, &input.script, &history);
+            drop(history);
+            Ok(Outcome::Checked(verdict?))
+        }
         Err(_) => Ok(Outcome::NoHistory),
     }
 }
@@ -115,7 +129,10 @@ fn settled(alloc: Global, input: &Input, schedule: &Schedule) -> Result<Outcome,
         (schedule.now.turns ≤ turn_bound input.now.script.cpus) }
 {
     match replay(alloc, &input.script, schedule.turns, &schedule.list) {
-        Ok(_) => Ok(Outcome::Settled),
+        Ok(history) => {
+            drop(history);
+            Ok(Outcome::Settled)
+        }
         Err(ScheduleRefusal::Bad { at, kind }) => Ok(Outcome::Refused { at, kind }),
         Err(ScheduleRefusal::NoMemory) => Err(AllocError),
     }
@@ -127,7 +144,11 @@ pub(crate) fn scheduled(alloc: Global, input: &Input, text: &[u8]) -> Result<Out
     requires bytes { length text.now ≤ INPUT_LIMIT }
 {
     match read_schedule(alloc, input, text, 1) {
-        Ok(schedule) => settled(alloc, input, &schedule),
+        Ok(schedule) => {
+            let outcome = settled(alloc, input, &schedule);
+            drop(schedule);
+            outcome
+        }
         Err(_) => Ok(Outcome::NoHistory),
     }
 }
@@ -156,7 +177,11 @@ pub(crate) fn taken_in_turn(
     requires bytes { length text.now ≤ INPUT_LIMIT }
 {
     match read_schedule(alloc, input, text, 1) {
-        Ok(schedule) => in_turn(alloc, input, &schedule),
+        Ok(schedule) => {
+            let outcome = in_turn(alloc, input, &schedule);
+            drop(schedule);
+            outcome
+        }
         Err(_) => Ok(Outcome::NoHistory),
     }
 }

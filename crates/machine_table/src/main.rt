@@ -11,6 +11,9 @@
 //! one on the run's history with a change; with `schedule` why the turns of `NAME.schedule` make no
 //! settled run. What is wanted is in those files and in `stdout`: examples that were worked out by
 //! hand.
+//!
+//! What a case makes is let go by a call of `drop`: that is proved far sooner than a function at
+//! whose end all parts of a script or a history go.
 #![tactic(auto)]
 
 ghost use Rattle.std.specs.Prelude.{◌≤◌, length};
@@ -141,7 +144,9 @@ fn put_script(rt: &HostRuntime, form: ScriptForm, case: &Case<'_>, input: &Input
     requires most { input.now.script.cpus ≤ 8 }
 {
     let outcome = of_script(rt.alloc(), form, case, input)?;
-    put_outcome(rt, &outcome, case.rest)
+    let written = put_outcome(rt, &outcome, case.rest);
+    drop(outcome);
+    written
 }
 
 /// A case that takes a file with these bytes too.
@@ -159,7 +164,9 @@ fn put_given(
         return println!(rt; "too long");
     }
     let outcome = of_file(rt.alloc(), form, input, given)?;
-    put_outcome(rt, &outcome, name)
+    let written = put_outcome(rt, &outcome, name);
+    drop(outcome);
+    written
 }
 
 /// A case that takes a file of this name too.
@@ -190,7 +197,11 @@ fn put_text(rt: &HostRuntime, case: &Case<'_>, text: &[u8]) -> io::Result<()> {
         return println!(rt; "too long");
     }
     match read(rt.alloc(), text) {
-        Ok(input) => put_read(rt, case, &input),
+        Ok(input) => {
+            let written = put_read(rt, case, &input);
+            drop(input);
+            written
+        }
         Err(_) => println!(rt; "no reading"),
     }
 }

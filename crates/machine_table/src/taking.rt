@@ -85,6 +85,21 @@ fn put_report(
     text.extend_from_slice(printed.as_slice())
 }
 
+/// The lines with the report of a history behind them.
+fn with_report(
+    alloc: Global,
+    input: &Input,
+    history: &History,
+    lines: Result<Vec<u8>, AllocError>,
+) -> Result<Vec<u8>, AllocError>
+    requires sound { IsSound input.now }
+    requires fit { events_fit input.now.script history.now.events ≡ true }
+{
+    let mut text = lines?;
+    put_report(alloc, input, history, &mut text)?;
+    Ok(text)
+}
+
 /// A line for each turn, whether the history is settled then, and its report.
 pub(crate) fn taken_lines(
     alloc: Global,
@@ -98,9 +113,10 @@ pub(crate) fn taken_lines(
     requires few { limit ≤ TURNS }
 {
     let mut core = Core::new(alloc, &input.script, limit)?;
-    let mut text = turn_lines(alloc, &mut core, list)?;
+    let lines = turn_lines(alloc, &mut core, list);
     core.is_run();
     let history = core.finish();
-    put_report(alloc, input, &history, &mut text)?;
-    Ok(text)
+    let text = with_report(alloc, input, &history, lines);
+    drop(history);
+    text
 }

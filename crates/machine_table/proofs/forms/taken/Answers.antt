@@ -4,8 +4,8 @@ use Rattle.nt_laws.proofs.Named.RunFits.{run_fits}
 use Rattle.nt_ranges.proofs.Reports.{few_cpus, few_turns}
 use Rattle.machine_table.proofs.forms.taken.Goals as goal
 
-pub report-requires-clause-fit : goal.report-requires-clause-fit
-report-requires-clause-fit c =
+pub report-text-requires-clause-fit : goal.report-text-requires-clause-fit
+report-text-requires-clause-fit c =
     let run = (replays_run c.args.input.now.script _ _ (reverse c.in-Ok.history.events) c.in-Ok.ensures.ok).run in
     run_fits c.args.input.now.script _ c.in-Ok.history.events c.requires.sound.fits run
 
