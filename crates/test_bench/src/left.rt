@@ -35,17 +35,31 @@ fn lines_of(alloc: Global, input: &Input, turns: u32) -> Result<Vec<u8>, AllocEr
     told(alloc, input, &history)
 }
 
-/// Whether these lines are what is left of the script's run with this turn limit.
-fn leaves(alloc: Global, text: &str, turns: u32, wanted: &str) -> Result<bool, Fail> {
-    if text.len() > 1000 || turns < 1 || turns > 100 {
-        return Ok(false);
-    }
-    let input = read(alloc, text.as_bytes())?;
+/// Whether these lines are what is left of the run of the input's script with this turn limit.
+fn leaves_of(alloc: Global, input: &Input, turns: u32, wanted: &str) -> Result<bool, AllocError>
+    requires sound { IsSound input.now }
+    requires turns { (1 ≤ turns) × (turns ≤ 100) }
+{
     if input.script.cpus > 64 {
         return Ok(false);
     }
-    let lines = lines_of(alloc, &input, turns)?;
+    let lines = lines_of(alloc, input, turns)?;
     Ok(lines.as_slice() == wanted.as_bytes())
+}
+
+/// Whether these lines are what is left of the script's run with this turn limit.
+fn leaves(alloc: Global, text: &str, turns: u32, wanted: &str) -> Result<bool, AllocError> {
+    if text.len() > 1000 || turns < 1 || turns > 100 {
+        return Ok(false);
+    }
+    match read(alloc, text.as_bytes()) {
+        Ok(input) => {
+            let found = leaves_of(alloc, &input, turns, wanted);
+            drop(input);
+            found
+        }
+        Err(_) => Ok(false),
+    }
 }
 
 /// A thread waits in a guarded region for a special APC that is to release it.

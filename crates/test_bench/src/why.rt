@@ -430,7 +430,11 @@ fn text_tells(
         return Ok(false);
     }
     match read(alloc, text.as_bytes()) {
-        Ok(input) => are_told(alloc, &input, thing, cases),
+        Ok(input) => {
+            let told = are_told(alloc, &input, thing, cases);
+            drop(input);
+            told
+        }
         Err(_) => Ok(false),
     }
 }
@@ -464,19 +468,26 @@ fn is_interrupt(input: &Input, cpu: &str, level: &str) -> bool {
     read_interrupt(input, cpu.as_bytes(), level.as_bytes()).is_some()
 }
 
-/// Whether just the words that should name an interrupt of the script of a text do.
-fn text_names(alloc: Global, text: &str) -> Result<bool, AllocError> {
+/// Whether just the words that should name an interrupt of the script do.
+fn are_interrupts(input: &Input) -> bool {
+    is_interrupt(input, "p0", "4")
+        && is_interrupt(input, "0", "4")
+        && !is_interrupt(input, "p1", "4")
+        && !is_interrupt(input, "p0", "12")
+}
+
+/// The same of the script of a text.
+fn text_names(alloc: Global, text: &str) -> bool {
     if text.len() > INPUT_LIMIT {
-        return Ok(false);
+        return false;
     }
     match read(alloc, text.as_bytes()) {
-        Ok(input) => Ok(
-            is_interrupt(&input, "p0", "4")
-                && is_interrupt(&input, "0", "4")
-                && !is_interrupt(&input, "p1", "4")
-                && !is_interrupt(&input, "p0", "12"),
-        ),
-        Err(_) => Ok(false),
+        Ok(input) => {
+            let named = are_interrupts(&input);
+            drop(input);
+            named
+        }
+        Err(_) => false,
     }
 }
 
@@ -526,7 +537,6 @@ fn a_timer_that_another_processor_expires(rt: HostRuntime) -> Result<(), AllocEr
 }
 
 #[test]
-fn the_words_of_an_interrupt(rt: HostRuntime) -> Result<(), AllocError> {
-    assert!(rt; text_names(rt.alloc(), DISK)?);
-    Ok(())
+fn the_words_of_an_interrupt(rt: HostRuntime) {
+    assert!(rt; text_names(rt.alloc(), DISK));
 }
