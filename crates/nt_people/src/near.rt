@@ -59,6 +59,46 @@ fn too_far(letters: &str) -> usize {
     letters.len() / 3 + 1
 }
 
+/// Takes a letter from those that are counted. Whether it was there.
+fn take_letter(counts: &mut [u8; 128], letter: char) -> bool {
+    let Ok(at) = u8::try_from(letter) else {
+        return false;
+    };
+    match counts.get_mut(usize::from(at)) {
+        Some(count) if 0 < *count => {
+            *count -= 1;
+            true
+        }
+        _ => false,
+    }
+}
+
+/// How many letters of a name each letter is.
+fn counts_of(name: &str) -> [u8; 128] {
+    let mut counts = [0; 128];
+    for byte in name.as_bytes() {
+        if let Some(count) = counts.get_mut(usize::from(*byte)) {
+            *count = u8::saturating_add(*count, 1);
+        }
+    }
+    counts
+}
+
+/// A number that the distance of letters from a name is never below: how many letters of the longer
+/// one the other does not have. It is found sooner than the distance.
+fn least_distance(letters: &str, name: &str) -> usize {
+    let mut counts = counts_of(name);
+    let mut all: usize = 0;
+    let mut shared: usize = 0;
+    for letter in letters.chars() {
+        all = all.saturating_add(1);
+        if take_letter(&mut counts, letter) {
+            shared = shared.saturating_add(1);
+        }
+    }
+    all.max(name.len()).saturating_sub(shared)
+}
+
 /// The name of this kind that a line declares, and its distance from letters, where this is less
 /// than another one.
 fn nearer<'a>(
@@ -74,6 +114,9 @@ fn nearer<'a>(
     let Some(name) = declared_name(kind, line) else {
         return Ok(None);
     };
+    if least <= least_distance(letters, name) {
+        return Ok(None);
+    }
     let edits = damerau_levenshtein(alloc, letters, name)?;
     if edits < least {
         Ok(Some((edits, name)))
