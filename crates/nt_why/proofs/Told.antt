@@ -40,7 +40,7 @@ use Rattle.nt_why.specs.declared.reasons.Reason.TheVariants.{Ended, NeverInserte
 use Rattle.nt_why.specs.Past.{past_at}
 use Rattle.nt_why.specs.Fates.{delivers, fate_as, last_insert, thing_of}
 use Rattle.nt_why.specs.Lined.{AreTrue, IsWhat, next_reason, put_to, with_all, with_each, with_place, with_processor}
-use Rattle.nt_why.specs.Moments.{AreAll, IsAt, IsTold, events_of, past_of}
+use Rattle.nt_why.specs.Moments.{AreAll, IsAt, IsTold, WaitsOn, events_of, past_of}
 use Rattle.nt_why.specs.Says.{AreComplete, Says, gives, gives_what, holds_back, is_free, maker_of, place_of, sort_of}
 
 -- fresh processors and a fresh floor are as after the empty history
@@ -167,10 +167,10 @@ next_true P p (Ok e) (Err j) f g h = absurd h
 next_true P p (Err k) (Ok w) f g h = absurd h
 
 -- it is true
-pub next_told : (q : Question) (p : CpuNo) (w : Result What ScheduleKind) → IsWhat (step q.script.now q.turns (NextTurn p) (past_of q)) w →
-    IsTold q (next_reason p w)
-next_told q p w h =
-    next_true (IsTold q) p (step q.script.now q.turns (NextTurn p) (past_of q)) w (λ e i. (e, (i, refl))) (λ k i. i) h
+pub next_told : (q : Question) (p : CpuNo) (w : Result What ScheduleKind) → WaitsOn q p →
+    IsWhat (step q.script.now q.turns (NextTurn p) (past_of q)) w → IsTold q (next_reason p w)
+next_told q p w on h =
+    next_true (IsTold q) p (step q.script.now q.turns (NextTurn p) (past_of q)) w (λ e i. (on, (e, (i, refl)))) (λ k i. (on, i)) h
 
 -- it delivers what it tells
 pub gives_same : (x : Thing) (n : ℕ) (r : Result Event ScheduleKind) (w : Result What ScheduleKind) → IsWhat r w → gives_what x n w ≡ gives x n r
@@ -314,8 +314,9 @@ no_cpu s limit p past h = go (nat_lt p.0 s.cpus) refl
     go false k = ap (λ (b : Bool). refused_if (not b) NoSuchCpu rest) k
 
 -- that is told, and true
-pub none_told : (q : Question) (p : CpuNo) (rs : List Reason) → q.script.now.cpus ≤ p.0 → All (IsTold q) rs → All (IsTold q) (rs ++ NoNext p NoSuchCpu ∷ [])
-none_told q p rs h a = All-push (IsTold q) rs (NoNext p NoSuchCpu) a (no_cpu q.script.now q.turns p (past_of q) h)
+pub none_told : (q : Question) (p : CpuNo) (rs : List Reason) → WaitsOn q p → q.script.now.cpus ≤ p.0 → All (IsTold q) rs →
+    All (IsTold q) (rs ++ NoNext p NoSuchCpu ∷ [])
+none_told q p rs on h a = All-push (IsTold q) rs (NoNext p NoSuchCpu) a (on, no_cpu q.script.now q.turns p (past_of q) h)
 
 -- some reason holds the object back then
 pub none_held : (q : Question) (p : CpuNo) (n : ℕ) (rs : List Reason) → q.script.now.cpus ≤ p.0 → list_any holds_back (rs ++ NoNext p NoSuchCpu ∷ [])

@@ -21,7 +21,7 @@ use Rattle.nt_why.specs.declared.reasons.Reason.{Reason}
 use Rattle.nt_why.specs.declared.watch.Watch.TheVariants as watch
 use Rattle.nt_why.specs.Fates.{last_insert, thing_of}
 use Rattle.nt_why.specs.Lined.{AreTrue}
-use Rattle.nt_why.specs.Says.{AreComplete, Says, class_of, place_of}
+use Rattle.nt_why.specs.Says.{AreComplete, Says, WaitsAt, class_of, place_of}
 use Rattle.nt_why.specs.Watches.{since}
 
 -- the events of the whole history, in order, and the first of them that count, the newest first
@@ -46,6 +46,10 @@ IsTold q r = Says q.script.now q.turns (events_of q) q.end q.object r
 
 abbrev pub AreAll : Question → List Reason → Type 0
 AreAll q rs = AreComplete q.script.now q.turns (events_of q) q.end q.object rs
+
+-- the object that is asked for waits on this processor, if its last insert does
+abbrev pub WaitsOn : Question → CpuNo → Type 0
+WaitsOn q p = WaitsAt q.script.now (events_of q) q.end q.object p
 
 -- this is the script's processor of this number, and the floor, as the first events leave them
 pub record IsAt (q : Question) (p : CpuNo) (c : CpuState) (f : PlainState) : Type 0 where

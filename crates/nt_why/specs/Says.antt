@@ -177,6 +177,11 @@ abbrev pub place_of : Script → List Event → ℕ → Object → CpuNo
 place_of s events n (Dpc d) = queue_for (target_of d (past_at n events)) (maker_of events n)
 place_of s events n (Apc a) = cpu_of s (owner_of s a)
 
+-- the last insert of the object goes to this processor
+abbrev pub WaitsAt : Script → List Event → ℕ → Object → CpuNo → Type 0
+WaitsAt s events end x p = (n : ℕ) × ((last_insert (thing_of x) (past_at end events) ≡ Some n)
+    × (place_of s events n x ≡ p))
+
 -- what the insert was, by event n: a DPC object's importance then, or an APC object's kind
 abbrev pub sort_of : Script → List Event → ℕ → Object → Sort
 sort_of s events n (Dpc d) = sort.Dpc (importance_of d (past_at n events))
@@ -210,11 +215,11 @@ Says s limit events end x (Ended n f) =
     (last_insert (thing_of x) (past_at end events) ≡ Some n)
     × ((fate_of (thing_of x) n (past_at end events) ≡ fate_as f) × (still_waits (fate_as f) ≡ false))
 Says s limit events end x (Waits i) = IsPending s events end x i
-Says s limit events end x (First p) =
-    is_it (thing_of x) (option_map (λ o. thing_of o.0) (first_of s (lanes_at s (past_at end events)) p x)) ≡ true
-Says s limit events end x (Behind p o n) =
-    (first_of s (lanes_at s (past_at end events)) p x ≡ Some (o, n))
-    × (is_it (thing_of x) (Some (thing_of o)) ≡ false)
+Says s limit events end x (First p) = WaitsAt s events end x p ×
+    (is_it (thing_of x) (option_map (λ o. thing_of o.0) (first_of s (lanes_at s (past_at end events)) p x)) ≡ true)
+Says s limit events end x (Behind p o n) = WaitsAt s events end x p ×
+    ((first_of s (lanes_at s (past_at end events)) p x ≡ Some (o, n))
+    × (is_it (thing_of x) (Some (thing_of o)) ≡ false))
 Says s limit events end x (Runs t) =
     IsOwner s x t × (is_thread (own_of s (cpu_of s t) (past_at end events)).frames.running t ≡ true)
 Says s limit events end x (NotRunning a) = IsOwner s x a.thread × (IsAway s (past_at end events) a
@@ -222,21 +227,24 @@ Says s limit events end x (NotRunning a) = IsOwner s x a.thread × (IsAway s (pa
 Says s limit events end x (InRegions t r) =
     IsOwner s x t × ((regions_known (own_of s (cpu_of s t) (past_at end events))
     (facts_at (lanes_at s (past_at end events)) t) t ≡ Some r) × (passes s r x ≡ false))
-Says s limit events end x (Stands st) =
-    IsStood s (past_at end events) st × (lets s x (own_of s st.cpu (past_at end events)) ≡ true)
-Says s limit events end x (TooHigh st) =
-    IsStood s (past_at end events) st × (lets s x (own_of s st.cpu (past_at end events)) ≡ false)
-Says s limit events end x (Noticed r n k) =
-    IsNoticed s (past_at end events) r n k × (r.class ≡ class_of s x)
-Says s limit events end x (Unnoticed r n) = IsUnnoticed s (past_at end events) r n × (r.class ≡ class_of s x)
-Says s limit events end x (NotAsked r) = IsNotAsked s (past_at end events) r × (r.class ≡ class_of s x)
-Says s limit events end x (AskedNothing r n) =
-    (asks_at s n r.cpu r.class (past_at end events) ≡ false)
-    × ((last_insert (thing_of x) (past_at end events) ≡ Some n) × (r.class ≡ class_of s x))
-Says s limit events end x (Cut p) = is_cut limit (own_of s p (past_at end events)) ≡ true
-Says s limit events end x (Next p w) =
-    (e : Event) × ((step s limit (NextTurn p) (past_at end events) ≡ Ok e) × (e.what ≡ w))
-Says s limit events end x (NoNext p k) = step s limit (NextTurn p) (past_at end events) ≡ Err k
+Says s limit events end x (Stands st) = WaitsAt s events end x st.cpu ×
+    (IsStood s (past_at end events) st × (lets s x (own_of s st.cpu (past_at end events)) ≡ true))
+Says s limit events end x (TooHigh st) = WaitsAt s events end x st.cpu ×
+    (IsStood s (past_at end events) st × (lets s x (own_of s st.cpu (past_at end events)) ≡ false))
+Says s limit events end x (Noticed r n k) = WaitsAt s events end x r.cpu ×
+    (IsNoticed s (past_at end events) r n k × (r.class ≡ class_of s x))
+Says s limit events end x (Unnoticed r n) = WaitsAt s events end x r.cpu ×
+    (IsUnnoticed s (past_at end events) r n × (r.class ≡ class_of s x))
+Says s limit events end x (NotAsked r) = WaitsAt s events end x r.cpu ×
+    (IsNotAsked s (past_at end events) r × (r.class ≡ class_of s x))
+Says s limit events end x (AskedNothing r n) = WaitsAt s events end x r.cpu ×
+    ((asks_at s n r.cpu r.class (past_at end events) ≡ false)
+    × ((last_insert (thing_of x) (past_at end events) ≡ Some n) × (r.class ≡ class_of s x)))
+Says s limit events end x (Cut p) = WaitsAt s events end x p × (is_cut limit (own_of s p (past_at end events)) ≡ true)
+Says s limit events end x (Next p w) = WaitsAt s events end x p ×
+    ((e : Event) × ((step s limit (NextTurn p) (past_at end events) ≡ Ok e) × (e.what ≡ w)))
+Says s limit events end x (NoNext p k) = WaitsAt s events end x p ×
+    (step s limit (NextTurn p) (past_at end events) ≡ Err k)
 Says s limit events end x (Then f) =
     (n : ℕ) × ((last_insert (thing_of x) (past_at end events) ≡ Some n)
     × (fate_of (thing_of x) n (reverse events) ≡ fate_as f))

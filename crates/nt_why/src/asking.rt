@@ -180,7 +180,8 @@ fn why_timer(
 /// where it has fewer. An error is want of memory.
 ///
 /// The script fits, and the history is a run of it, settled or not. Its turn limit is 1 to 20,000
-/// and at most 160,000 in all processors together. Each reason is true of the thing then.
+/// and at most 160,000 in all processors together. Each reason is true of the thing then; one of an
+/// object that names a processor, of the processor to which its last insert went.
 ///
 /// Where an object has no pending insert, the first reason says why: no event inserted it, or the
 /// last insert was begun, removed or flushed. Else some reason says what holds it back, exactly

@@ -10,7 +10,7 @@ ghost use Rattle.nt_cpus.specs.Following.{AreAfter};
 ghost use Rattle.nt_why.specs.Fates.{last_insert, thing_of};
 ghost use Rattle.nt_why.specs.Lined.{IsWhat, with_all};
 ghost use Rattle.nt_why.specs.Moments.{AreAll, AreTold, IsAsked, IsAt, IsAwaySince, IsCase};
-ghost use Rattle.nt_why.specs.Moments.{IsTold, events_of, past_of};
+ghost use Rattle.nt_why.specs.Moments.{IsTold, WaitsOn, events_of, past_of};
 ghost use Rattle.nt_why.specs.Says.{gives, gives_what, holds_back, is_free};
 ghost use Rattle.nt_why.specs.Says.{class_of as class_in, place_of};
 ghost use Rattle.nt_why.specs.Watches.{WatchFits, since as since_in};
@@ -121,6 +121,7 @@ fn lines_of(
     case: &Case,
 ) -> Lines
     requires at { IsAt question.now p cpu.now floor.now }
+    requires waits { WaitsOn question.now p }
     requires case { IsCase question.now p case.now }
     ensures { AreTold question.now result }
 {

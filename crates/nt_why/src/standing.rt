@@ -6,7 +6,7 @@ ghost use Rattle.nt_event.specs.Lanes.{facts_at};
 ghost use Rattle.nt_event.specs.Routines.{part_of as part_in};
 ghost use Rattle.nt_event.specs.Script.{has_cpu};
 ghost use Rattle.nt_why.specs.Fates.{last_insert, thing_of};
-ghost use Rattle.nt_why.specs.Moments.{IsAt, IsTold, past_of};
+ghost use Rattle.nt_why.specs.Moments.{IsAt, IsTold, WaitsOn, past_of};
 ghost use Rattle.nt_why.specs.Says.{class_of as class_in, first_apc, first_of as first_in};
 ghost use Rattle.nt_why.specs.Says.{lets as lets_in, lets_dpc, top_of as top_in};
 ghost use Rattle.nt_why.specs.Watches.{since as since_in};
@@ -103,7 +103,7 @@ pub(crate) fn level_line(
     floor: &PlainFloor<'_>,
     since: Option<u64>,
 ) -> Reason
-    ensures { IsAt question.now p cpu.now floor.now →
+    ensures { IsAt question.now p cpu.now floor.now → WaitsOn question.now p →
         since ≡ since_in question.now.script.now (Watch.Stand p) (past_of question.now) →
         IsTold question.now result }
 {
@@ -187,7 +187,8 @@ pub(crate) fn first_line(
     floor: &PlainFloor<'_>,
 ) -> Option<Reason>
     requires cpu { IsTrue (has_cpu floor.now.script p) }
-    ensures { IfSome result (λ r. IsAt question.now p cpu.now floor.now → IsTold question.now r) }
+    ensures { IfSome result (λ r. IsAt question.now p cpu.now floor.now →
+        WaitsOn question.now p → IsTold question.now r) }
 {
     let _cpu = cpu;
     match first_of(question.script, floor, p, question.object) {
@@ -212,7 +213,7 @@ pub(crate) fn asked_line(
     since: Option<u64>,
 ) -> Option<Reason>
     ensures { IfSome result (λ r. IsAt question.now p cpu.now floor.now →
-        since ≡ since_in question.now.script.now
+        WaitsOn question.now p → since ≡ since_in question.now.script.now
         (Watch.Seen p (class_in question.now.script.now question.now.object))
         (past_of question.now) → IsTold question.now r) }
 {
@@ -249,6 +250,7 @@ pub(crate) fn insert_line(
     at: u64,
 ) -> Option<Reason>
     ensures { IfSome result (λ r. IsAt question.now p cpu.now floor.now →
+        WaitsOn question.now p →
         last_insert (thing_of question.now.object) (past_of question.now) ≡ Some at →
         IsTold question.now r) }
 {
@@ -270,7 +272,8 @@ pub(crate) fn cut_line(
     cpu: &Cpu<'_>,
     floor: &PlainFloor<'_>,
 ) -> Option<Reason>
-    ensures { IfSome result (λ r. IsAt question.now p cpu.now floor.now → IsTold question.now r) }
+    ensures { IfSome result (λ r. IsAt question.now p cpu.now floor.now →
+        WaitsOn question.now p → IsTold question.now r) }
 {
     let _floor = floor;
     if question.turns <= cpu.made() {

@@ -19,7 +19,7 @@ returns-clause-told c =
     let p = c.args.p in
     let few : q.script.now.cpus ≤ p.0 = omega arith in
     on_ok (c.add.new.items.items ≡ rs ++ NoNext p NoSuchCpu ∷ []) (All (IsTold q) c.add.new.items.items) c.add.result
-    (λ h. subst (λ (xs : List Reason). All (IsTold q) xs) (sym h) (none_told q p rs few c.requires.told)) c.add.ensures
+    (λ h. subst (λ (xs : List Reason). All (IsTold q) xs) (sym h) (none_told q p rs (c.args.at, (c.requires.at, c.requires.place)) few c.requires.told)) c.add.ensures
 
 pub returns-clause-held : goal.returns-clause-held
 returns-clause-held c =

@@ -6,7 +6,7 @@ use Rattle.nt_event.specs.Step.{step}
 use Rattle.nt_why.specs.declared.reasons.Reason.{Reason}
 use Rattle.nt_why.specs.Fates.{thing_of}
 use Rattle.nt_why.specs.Lined.{with_all}
-use Rattle.nt_why.specs.Moments.{IsTold, past_of}
+use Rattle.nt_why.specs.Moments.{IsTold, WaitsOn, past_of}
 use Rattle.nt_why.specs.Says.{gives, holds_back}
 use Rattle.nt_why.proofs.Told.{all_held, all_told, gives_same, is_at, next_holds, next_told, on_ok}
 use Rattle.nt_why.proofs.objects.tell.Goals as goal
@@ -18,13 +18,17 @@ lines_of-lines-requires-clause-at c =
     is_at c.args.question.now c.args.p n c.follow-stood.new.floor _ t.after (t.script ∙ c.requires.script) (t.limit ∙ c.requires.limit) c.requires.cpu
     (c.cpu_of.ensures _ t.after.every)
 
+pub lines_of-lines-requires-clause-waits : goal.lines_of-lines-requires-clause-waits
+lines_of-lines-requires-clause-waits c = (c.args.at, (c.requires.at, c.requires.place))
+
 pub returns-clause-told : goal.returns-clause-told
 returns-clause-told c =
     let q = c.args.question.now in
     let lines = c.lines_of-lines.result in
     let next = c.next_line.result in
     let rs = c.args.reasons.now.items in
-    let truth = subst (λ (r : Reason). IsTold q r) (sym c.next_line.ensures) (next_told q c.args.p c.args.ahead.now.next c.requires.next) in
+    let on : WaitsOn q c.args.p = (c.args.at, (c.requires.at, c.requires.place)) in
+    let truth = subst (λ (r : Reason). IsTold q r) (sym c.next_line.ensures) (next_told q c.args.p c.args.ahead.now.next on c.requires.next) in
     on_ok (c.put_all.new.reasons.items ≡ with_all c.gives.result lines next rs) (All (IsTold q) c.put_all.new.reasons.items) c.put_all.result
     (λ h.
     subst (λ (xs : List Reason). All (IsTold q) xs) (sym h)
