@@ -7,7 +7,7 @@ use Rattle.nt_event.specs.Step.{step}
 use Rattle.nt_why.specs.declared.reasons.Reason.{Reason}
 use Rattle.nt_why.specs.declared.reasons.Reason.TheVariants.{NoNext}
 use Rattle.nt_why.specs.Fates.{thing_of}
-use Rattle.nt_why.specs.Moments.{IsTold, past_of}
+use Rattle.nt_why.specs.Moments.{IsTold, WaitsOn, past_of}
 use Rattle.nt_why.specs.Says.{gives, holds_back}
 use Rattle.nt_why.proofs.Told.{none_held, none_told, on_ok}
 use Rattle.nt_why.proofs.objects.put_where.Goals as goal
@@ -18,8 +18,9 @@ returns-clause-told c =
     let rs = c.args.reasons.now.items in
     let p = c.args.p in
     let few : q.script.now.cpus ≤ p.0 = omega arith in
+    let on : WaitsOn q p = (c.args.at, (c.requires.at, c.requires.place)) in
     on_ok (c.add.new.items.items ≡ rs ++ NoNext p NoSuchCpu ∷ []) (All (IsTold q) c.add.new.items.items) c.add.result
-    (λ h. subst (λ (xs : List Reason). All (IsTold q) xs) (sym h) (none_told q p rs (c.args.at, (c.requires.at, c.requires.place)) few c.requires.told)) c.add.ensures
+    (λ h. subst (λ (xs : List Reason). All (IsTold q) xs) (sym h) (none_told q p rs on few c.requires.told)) c.add.ensures
 
 pub returns-clause-held : goal.returns-clause-held
 returns-clause-held c =
