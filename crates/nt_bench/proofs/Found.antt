@@ -1,5 +1,5 @@
 -- What is done with a text is found in its bytes, and nothing that is found has the status of a failing sink.
-use Rattle.std.proofs.Common.{subst, sym, ◌∙◌}
+use Rattle.std.proofs.Common.{subst}
 use Rattle.std.specs.Prelude.{◌≡◌, List, None, Option, Some, ℕ}
 use Rattle.nt_ask.specs.declared.answer.Status.{Status}
 use Rattle.nt_ask.specs.declared.answer.Status.TheVariants as exit
@@ -13,7 +13,7 @@ use Rattle.nt_lab_words.specs.declared.words.Work.TheVariants as work
 use Rattle.nt_bench.specs.declared.friendly.Friendly.{Friendly}
 use Rattle.nt_bench.specs.declared.friendly.Named.{Named}
 use Rattle.nt_bench.specs.Friendly.{IsFriendly}
-use Rattle.nt_bench.specs.Outcome.{IsDone, IsFoundBy, IsFoundFrom, IsFoundIn, IsFoundOf, IsText}
+use Rattle.nt_bench.specs.Outcome.{IsDone, IsFoundBy, IsFoundIn, IsFoundOf}
 
 -- where memory is wanting, its line is written
 memory : (w : Work) (f : Friendly) (text : List ℕ) → IsDone w f exit.Memory text → text ≡ memory_line

@@ -10,13 +10,12 @@ use Rattle.nt_lab_words.specs.declared.words.ThingKind.{ThingKind}
 use Rattle.nt_laws.proofs.Named.RunFits.{run_fits}
 use Rattle.nt_log.specs.Schedules.{schedule_of, turns_fit}
 use Rattle.nt_print.proofs.Turns.{turns_of_fit}
-use Rattle.nt_shown.specs.declared.refusal.ShownRefusal.{ShownRefusal}
 use Rattle.nt_shown.specs.declared.showing.ShownRun.{ShownRun}
-use Rattle.nt_shown.specs.Shown.{IsShown, IsUnshown}
+use Rattle.nt_shown.specs.Shown.{IsShown}
 use Rattle.nt_bench.specs.declared.friendly.Friendly.{Friendly}
 use Rattle.nt_bench.specs.declared.running.Shape.{Shape}
 use Rattle.nt_bench.specs.Reasons.{IsOfUsual, IsReasonsReply, IsWhyReply}
-use Rattle.nt_bench.specs.Running.{IsAnyRun, IsRefusedIn, IsRunReply, IsShownReply, IsToldOf, IsUnshownReply}
+use Rattle.nt_bench.specs.Running.{IsAnyRun, IsRunReply, IsShownReply, IsUnshownReply}
 
 -- the events of a run name things of its script
 pub run_named : (r : ShownRun) → IsAnyRun r → events_fit r.input.script r.gone.history.events ≡ true

@@ -32,7 +32,11 @@ pub(crate) fn asked_in(alloc: Global, form: Form, friendly: &Friendly<'_>) -> Re
     ensures { IsAskedIn form friendly.now result.status (text_of result.text) }
 {
     match read_asked(alloc, friendly.tidied.text.as_slice()) {
-        Ok(asked) => reply_to(alloc, form, &asked),
+        Ok(asked) => {
+            let reply = reply_to(alloc, form, &asked);
+            drop(asked);
+            reply
+        }
         Err(refusal) => bad_line(alloc, friendly, refusal),
     }
 }

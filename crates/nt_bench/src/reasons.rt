@@ -112,7 +112,11 @@ pub(crate) fn why_in(
     ensures { IsWhyReply kind friendly.now result.status (text_of result.text) }
 {
     match shown_run(alloc, friendly.tidied.text.as_slice(), USUAL) {
-        Ok(run) => reasons_of(alloc, &run, kind, friendly.named, after),
+        Ok(run) => {
+            let reply = reasons_of(alloc, &run, kind, friendly.named, after);
+            drop(run);
+            reply
+        }
         Err(refusal) => unshown(alloc, friendly, refusal),
     }
 }

@@ -128,7 +128,11 @@ pub(crate) fn run_in(alloc: Global, how: How, shape: Shape, friendly: &Friendly<
     ensures { IsShownReply how shape friendly.now result.status (text_of result.text) }
 {
     match shown_run(alloc, friendly.tidied.text.as_slice(), how) {
-        Ok(run) => shown_as(alloc, &run, shape),
+        Ok(run) => {
+            let reply = shown_as(alloc, &run, shape);
+            drop(run);
+            reply
+        }
         Err(refusal) => unshown(alloc, friendly, refusal),
     }
 }

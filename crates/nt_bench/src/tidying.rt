@@ -20,7 +20,10 @@ fn read_as_script(alloc: Global, bytes: &[u8]) -> Result<(), ScriptRefusal>
     ensures { IsReadAs bytes.now result }
 {
     match read(alloc, bytes) {
-        Ok(_) => Ok(()),
+        Ok(input) => {
+            drop(input);
+            Ok(())
+        }
         Err(refusal) => Err(refusal),
     }
 }

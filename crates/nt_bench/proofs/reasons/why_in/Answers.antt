@@ -9,4 +9,4 @@ pub returns-in-Ok : goal.returns-in-Ok
 returns-in-Ok c =
     let strict = c.as_slice.ensures.value ∙ c.requires.text in
     why_reply c.args.kind c.args.friendly.now c.in-Ok.run' _ _
-    (subst (λ (bytes : List ℕ). IsShown bytes USUAL c.in-Ok.run') strict c.in-Ok.ensures.ok) c.reasons_of.ensures
+    (subst (λ (bytes : List ℕ). IsShown bytes USUAL c.in-Ok.run') strict c.in-Ok.ensures.ok) c.reasons_of-reply.ensures

@@ -8,4 +8,4 @@ pub returns-in-Ok : goal.returns-in-Ok
 returns-in-Ok c =
     let strict = c.as_slice.ensures.value ∙ c.requires.friendly.text in
     shown_reply c.args.how c.args.shape c.args.friendly.now c.in-Ok.run' _ _
-    (subst (λ (bytes : List ℕ). IsShown bytes c.args.how c.in-Ok.run') strict c.in-Ok.ensures.ok) c.shown_as.ensures
+    (subst (λ (bytes : List ℕ). IsShown bytes c.args.how c.in-Ok.run') strict c.in-Ok.ensures.ok) c.shown_as-reply.ensures
