@@ -309,15 +309,21 @@ fn tells(
     Ok(found.0 == status && found.1.is_empty() && found.2.as_slice() == text.as_bytes())
 }
 
+/// Whether the program refuses this input, and what it writes on standard error alone begins so.
+fn refuses(alloc: Global, words: &[&str], input: &[u8], front: &[u8]) -> Result<bool, AllocError> {
+    let found = program(alloc, words, input)?;
+    let is_refused = found.0 == Status::Refused && found.1.is_empty();
+    Ok(is_refused && found.2.as_slice().starts_with(front))
+}
+
 #[test]
 fn what_is_no_question_is_refused(rt: HostRuntime) -> Result<(), Fail> {
     let alloc = rt.alloc();
     assert!(rt; tells(alloc, &["walk"], b"", Status::Usage, USAGE)?);
     assert!(rt; gives(alloc, &["--help"], b"", Status::Ok, USAGE)?);
     assert!(rt; gives(alloc, &["--version"], b"", Status::Ok, "ntlab 0.4.0\n")?);
-    let found = program(alloc, &["ask"], b"# nothing\ncpus 0\n")?;
-    assert!(rt; found.0 == Status::Refused && found.1.is_empty());
-    assert!(rt; found.2.as_slice().starts_with(b"standard input:2:6: "));
+    let text = b"# nothing\ncpus 0\n";
+    assert!(rt; refuses(alloc, &["ask"], text, b"standard input:2:6: ")?);
     Ok(())
 }
 
@@ -325,9 +331,7 @@ fn what_is_no_question_is_refused(rt: HostRuntime) -> Result<(), Fail> {
 fn a_file_is_named_in_messages(rt: HostRuntime) -> Result<(), Fail> {
     let alloc = rt.alloc();
     let text = b"cpus 1\ndpc d r\nthread t 0 r\nroutine r\n  queue e # here\nexit\n";
-    let found = program(alloc, &["left", "a.script"], text)?;
-    assert!(rt; found.0 == Status::Refused && found.1.is_empty());
-    assert!(rt; found.2.as_slice().starts_with(b"a.script:5:9: "));
+    assert!(rt; refuses(alloc, &["left", "a.script"], text, b"a.script:5:9: ")?);
     Ok(())
 }
 
@@ -342,6 +346,12 @@ fn friendly_texts_are_made_strict(rt: HostRuntime) -> Result<(), Fail> {
     Ok(())
 }
 
+/// Whether a picture of the script's run is drawn.
+fn is_drawn(alloc: Global, script: &[u8]) -> Result<bool, AllocError> {
+    let found = program(alloc, &["draw"], script)?;
+    Ok(found.0 == Status::Ok && found.1.as_slice().starts_with(b"<svg "))
+}
+
 #[test]
 fn runs_are_shown(rt: HostRuntime) -> Result<(), Fail> {
     let alloc = rt.alloc();
@@ -354,8 +364,7 @@ fn runs_are_shown(rt: HostRuntime) -> Result<(), Fail> {
         4  p0  -  PASSIVE   rest\n";
     assert!(rt; gives(alloc, &["run"], script, Status::Ok, report)?);
     assert!(rt; gives(alloc, &["left"], script, Status::Ok, "nothing is left\n")?);
-    let found = program(alloc, &["draw"], script)?;
-    assert!(rt; found.0 == Status::Ok && found.1.as_slice().starts_with(b"<svg "));
+    assert!(rt; is_drawn(alloc, script)?);
     let lanes = "       p0\n     0 > switch t\n     1 | note 1\n     2 | end 0\n     \
         3 < gone t\n     4 rest\n";
     assert!(rt; gives(alloc, &["draw", "--text"], script, Status::Ok, lanes)?);
@@ -418,13 +427,19 @@ fn reasons_are_told(rt: HostRuntime) -> Result<(), Fail> {
     Ok(())
 }
 
+/// Whether a file that can't be opened, with a name that a terminal would obey, and want of memory
+/// are told here.
+fn are_told(alloc: Global, err: &mut MemorySink) -> bool {
+    unopened(alloc, "a\u{1b}[1m.script", err) == Status::Read
+        && starved(err) == Status::Memory
+        && err.bytes() == b"cannot open a [1m.script\nno memory\n".as_slice()
+}
+
 #[test]
 fn what_cannot_be_read_is_told(rt: HostRuntime) -> Result<(), Fail> {
     let alloc = rt.alloc();
     let mut err = MemorySink::new(alloc, 100, 16, Vec::new(alloc))?;
-    assert!(rt; unopened(alloc, "a.script", &mut err) == Status::Read);
-    assert!(rt; starved(&mut err) == Status::Memory);
-    assert!(rt; err.bytes() == b"cannot open a.script\nno memory\n".as_slice());
+    assert!(rt; are_told(alloc, &mut err));
     Ok(())
 }
 
