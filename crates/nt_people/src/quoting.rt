@@ -45,8 +45,8 @@ fn put_times(out: &mut Vec<u8>, byte: u8, times: usize) -> Result<(), AllocError
     Ok(())
 }
 
-/// Whether a terminal does not show a character as one sign: a control character, one that turns
-/// the direction of writing or has no width, or one that marks lines.
+/// Whether a blank stands for a character: a control character, one that turns the direction of
+/// writing, one that separates or marks lines, or one of some that have no width.
 fn is_unseen(sign: char) -> bool
     ensures { result ≡ is_unseen sign }
 {
@@ -78,8 +78,8 @@ fn push_shown(shown: &mut String, sign: char) -> Result<(), AllocError>
     shown.push(shown_char(sign))
 }
 
-/// A text as it is shown on a terminal: a blank stands for each character that a terminal does not
-/// show as one sign, such as a control character.
+/// A text as it is shown on a terminal: a blank stands for each character that a terminal obeys,
+/// and for some that have no width.
 pub fn shown_text(alloc: Global, text: &str) -> Result<String, AllocError>
     ensures { IfOk result (λ shown. string_bytes shown ≡ shown_text text.now) }
 {
