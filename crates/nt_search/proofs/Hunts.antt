@@ -1,15 +1,15 @@
 -- What hunting leaves of what was found.
 use Rattle.std.proofs.Common.{append_assoc, arith, append-nil, subst, sym}
-use Rattle.std.specs.Prelude.{Contains, Err, IfErr, List, Ok, OnOk, Result, [], get_or, length, ℕ, ◌++◌, ◌<◌, ◌≡◌, ◌≤◌}
+use Rattle.std.specs.Prelude.{Err, IfErr, List, Ok, OnOk, Result, [], ◌++◌}
 use Rattle.nt_event.specs.declared.events.Event.{Event}
 use Rattle.nt_event.specs.declared.events.Turn.{Turn}
-use Rattle.nt_rounds.specs.Graph.{Drawn}
 use Rattle.nt_search.specs.declared.found.Found.{Found}
 use Rattle.nt_search.specs.declared.plan.Plan.{Plan}
+use Rattle.nt_search.specs.declared.stations.Stations.{Stations}
 use Rattle.nt_search.specs.declared.stop.Stop.{Stop}
 use Rattle.nt_search.specs.Hunts.{AreMore, IsHunted}
 use Rattle.nt_search.specs.Searches.{AreFound, AreTried, IsStopped}
-use Rattle.nt_search.specs.Tried.{IsLed}
+use Rattle.nt_search.specs.Stations.{AreMoreBy}
 use Rattle.nt_search.proofs.Verdict.{IsKnown}
 
 -- what was found is so with no more histories
@@ -41,6 +41,12 @@ forgotten x all f h = record {
     led = λ n m low among. absurd (omega (arith, low));
   };
 }
+
+-- a hunt that goes on from the states that it found, with machines that are kept on the way
+pub hunted_on : (x : Plan) (more : List (List Event)) (f : Found) (ys : Stations) → AreMoreBy x more f ys →
+    AreMoreBy x [] (record f { graph = record { closed = []; opened = [] } }) ys
+unfolding forgotten more_on
+hunted_on x more f ys a = (forgotten x [] f (more_on x [] more f a.0), a.1)
 
 -- however a hunt ended, its states are those of some histories, and its failures show in them
 pub known : (x : Plan) (f : Found) (r : Result (Unit {0}) Stop) → OnOk r (AreMore x [] f) → IfErr r (λ stop. IsStopped x [] stop f) → IsKnown x f

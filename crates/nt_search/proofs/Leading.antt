@@ -42,21 +42,20 @@ pub record IsOnWay (s : Script) (limit : ℕ) (watched : List Watched) (turns : 
   pub stands : Stands s limit watched past m
   pub lead : Lead s turns past h
 
--- fewer events than turns led there in all
-pub way_short : (s : Script) (limit : ℕ) (watched : List Watched) (all turns : List Turn) (h : List Event) (m : Machine) →
-    (on : IsOnWay s limit watched turns h m) → Lead s all [] h → length all < limit → length on.past < limit
-way_short s limit watched all turns h m on lead low =
-    let a = lead_length s all [] h lead in
-    let b = lead_length s turns on.past h on.lead in
-    omega (arith, a, b, low)
+-- it stands there behind no more events than the history has
+pub way_short : (s : Script) (limit : ℕ) (watched : List Watched) (turns : List Turn) (h : List Event) (m : Machine) →
+    (on : IsOnWay s limit watched turns h m) → length h < limit → length on.past < limit
+way_short s limit watched turns h m on low =
+    let size = lead_length s turns on.past h on.lead in
+    omega (arith, size, low)
 
 -- the next turn leads on
 pub way_on : (s : Script) (limit : ℕ) (watched : List Watched) (all : List Turn) (i : ℕ) (t : Turn) (h : List Event) (m n : Machine) (b : Bool) →
-    IsOnWay s limit watched (drop i all) h m → Lead s all [] h → length all < limit → i < length all → t ≡ get_or all i t →
+    IsOnWay s limit watched (drop i all) h m → length h < limit → i < length all → t ≡ get_or all i t →
     (b ≡ true → (past : List Event) → Stands s limit watched past m → length past < limit → IsTaken s limit watched t past n.event n) →
     (b ≡ false → (past : List Event) → Stands s limit watched past m → length past < limit → IsRefused s limit watched t past n) →
     IsOnWay s limit watched (drop (i + 1) all) h n
-way_on s limit watched all i t h m n b on lead low inside is taken refused = go b refl
+way_on s limit watched all i t h m n b on low inside is taken refused = go b refl
   where
     given : {e f : Event} → ◌≡◌ {A = Result Event ScheduleKind} (Ok e) (Ok f) → e ≡ f
     given q = cc
@@ -65,7 +64,7 @@ way_on s limit watched all i t h m n b on lead low inside is taken refused = go 
     differ q = cc
 
     short : length on.past < limit
-    short = way_short s limit watched all (drop i all) h m on lead low
+    short = way_short s limit watched (drop i all) h m on low
 
     here : Lead s (t ∷ drop (i + 1) all) on.past h
     here = subst (λ (ts : List Turn). Lead s ts on.past h)

@@ -9,6 +9,7 @@ pub mod Leading
 pub mod Noting
 pub mod Trying
 pub mod TryingMore
+pub mod Beginning
 pub mod Expanded
 pub mod Progress
 pub mod Ending

@@ -16,7 +16,9 @@ use Rattle.nt_search.specs.declared.states.Way.{Way}
 use Rattle.nt_search.specs.Failures.{IsNoted}
 use Rattle.nt_search.specs.Keys.{IsKeyOf}
 use Rattle.nt_search.specs.States.{AreStates, Seen}
+use Rattle.nt_search.specs.declared.stations.Stations.{Stations}
 use Rattle.nt_search.specs.Searches.{IsExpanded, IsSearched, IsSearchedTo, IsStart}
+use Rattle.nt_search.specs.Stations.{IsExpandedBy, IsSearchedBy}
 use Rattle.nt_search.specs.Tried.{IsLed, IsTried, Keeps}
 use Rattle.nt_search.proofs.TryingMore.{led_more, like_more}
 
@@ -116,6 +118,12 @@ gone_on x old new n h low e = record {
         one_more (λ ts past. (m : ℕ) → Contains ts m → IsLed s watched (h.all ++ e.more) past m) old.graph.closed e.targets h.all e.more n count inside
         (λ k l m among. led_more s watched h.all e.more (get_or h.all k []) m (h.found.led k m (omega (arith, l, count)) among)) e.led k
         (omega (arith, low, longer, count))
+
+-- with machines that are kept on the way
+pub gone_on_by : (x : Plan) (old new : Found) (n : ℕ) (ys : Stations) (h : IsSearchedTo x old n) → n < length h.all →
+    IsExpandedBy x h.all (get_or h.all n []) old new ys → IsSearchedBy x new (n + 1) ys
+unfolding gone_on
+gone_on_by x old new n ys h low e = (gone_on x old new n h low e.0, e.1)
 
 -- with as many expanded as there are states, the search is at its end
 pub ended : (x : Plan) (f : Found) (n : ℕ) → IsSearchedTo x f n → length f.states.ways ≤ n → IsSearched x f

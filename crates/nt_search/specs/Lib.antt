@@ -10,3 +10,4 @@ pub mod Ends
 pub mod Searches
 pub mod Hunts
 pub mod Rounding
+pub mod Stations

@@ -10,12 +10,14 @@ ghost use Rattle.nt_search.specs.declared.failures.Failure.{Failure as TheFailur
 ghost use Rattle.nt_search.specs.Failures.{FailsAt};
 ghost use Rattle.nt_search.specs.Hunts.{AreMore, IsHunted};
 ghost use Rattle.nt_search.specs.Searches.{AreFound, IsAt, IsPlan, IsStart, IsStopped};
+ghost use Rattle.nt_search.specs.Stations.{AreMoreBy, AreStations, IsTrial};
 
-use crate::expanding::is_wide;
+use crate::expanding::{Trial, is_wide};
 use crate::failures::Failure;
 use crate::found::Found;
 use crate::machine::Machine;
 use crate::plan::Plan;
+use crate::stations::Stations;
 use crate::stop::Stop;
 use nt_ahead::turns_ahead;
 use nt_event::limits::{EVENTS, TURNS};
@@ -101,13 +103,13 @@ fn all_failed(expectations: &[Expectation], failures: &[Option<Failure>]) -> boo
 
 impl<'s> Plan<'s> {
     /// Tries the turn, where it looks at one class at most and is one of the last processor or of
-    /// another one, as is wanted. Both machines stand in the state, and the next one again
-    /// afterwards. False where the turn is not wanted or refused.
+    /// another one, as is wanted. The machine stands in the state. False where the turn is not
+    /// wanted or refused.
     fn hunt_turn(
         &self,
         alloc: Global,
         machine: &Machine<'s>,
-        next: &mut Machine<'s>,
+        next: &mut Trial<'s>,
         place: &Place,
         goes_on: bool,
         turn: &Turn,
@@ -116,17 +118,17 @@ impl<'s> Plan<'s> {
         requires plan { IsPlan self.now }
         requires at { (all : List (List TheEvent)) × AreFound self.now all found.old ×
             IsAt self.now all place.now.state machine.now ×
-            IsAt self.now all place.now.state next.old }
+            IsTrial self.now all place.now.state next.old }
         ensures more { OnOk result ((all : List (List TheEvent)) →
             AreFound self.now all found.old → IsAt self.now all place.now.state machine.now →
-            IsAt self.now all place.now.state next.old → AreMore self.now all found.new) }
+            IsTrial self.now all place.now.state next.old → AreMore self.now all found.new) }
         ensures next { OnOk result ((all : List (List TheEvent)) →
             IsAt self.now all place.now.state machine.now →
-            IsAt self.now all place.now.state next.old →
-            IsAt self.now all place.now.state next.new) }
+            IsTrial self.now all place.now.state next.old →
+            IsTrial self.now all place.now.state next.new) }
         ensures stopped { IfErr result (λ stop. (all : List (List TheEvent)) →
             AreFound self.now all found.old → IsAt self.now all place.now.state machine.now →
-            IsAt self.now all place.now.state next.old → IsStopped self.now all stop found.new) }
+            IsTrial self.now all place.now.state next.old → IsStopped self.now all stop found.new) }
     {
         if is_wide(turn) || place.goes_on_by(turn) != goes_on {
             return Ok(false);
@@ -136,13 +138,13 @@ impl<'s> Plan<'s> {
         Ok(taken)
     }
 
-    /// Tries those of these turns that are wanted. Both machines stand in the state, and the next
-    /// one again afterwards. False where none was taken.
+    /// Tries those of these turns that are wanted. The machine stands in the state. False where
+    /// none was taken.
     fn hunt_turns(
         &self,
         alloc: Global,
         machine: &Machine<'s>,
-        next: &mut Machine<'s>,
+        next: &mut Trial<'s>,
         place: &Place,
         goes_on: bool,
         turns: &[Turn],
@@ -151,17 +153,17 @@ impl<'s> Plan<'s> {
         requires plan { IsPlan self.now }
         requires at { (all : List (List TheEvent)) × AreFound self.now all found.old ×
             IsAt self.now all place.now.state machine.now ×
-            IsAt self.now all place.now.state next.old }
+            IsTrial self.now all place.now.state next.old }
         ensures more { OnOk result ((all : List (List TheEvent)) →
             AreFound self.now all found.old → IsAt self.now all place.now.state machine.now →
-            IsAt self.now all place.now.state next.old → AreMore self.now all found.new) }
+            IsTrial self.now all place.now.state next.old → AreMore self.now all found.new) }
         ensures next { OnOk result ((all : List (List TheEvent)) →
             IsAt self.now all place.now.state machine.now →
-            IsAt self.now all place.now.state next.old →
-            IsAt self.now all place.now.state next.new) }
+            IsTrial self.now all place.now.state next.old →
+            IsTrial self.now all place.now.state next.new) }
         ensures stopped { IfErr result (λ stop. (all : List (List TheEvent)) →
             AreFound self.now all found.old → IsAt self.now all place.now.state machine.now →
-            IsAt self.now all place.now.state next.old → IsStopped self.now all stop found.new) }
+            IsTrial self.now all place.now.state next.old → IsStopped self.now all stop found.new) }
     {
         let mut some = false;
         for index in 0..turns.len() {
@@ -173,12 +175,12 @@ impl<'s> Plan<'s> {
     }
 
     /// Tries those of these turns that are of another processor than the last one, where that is
-    /// no preemption too many. Both machines stand in the state.
+    /// no preemption too many. The machine stands in the state.
     fn hunt_others(
         &self,
         alloc: Global,
         machine: &Machine<'s>,
-        next: &mut Machine<'s>,
+        next: &mut Trial<'s>,
         place: &Place,
         preemptions: u8,
         turns: &[Turn],
@@ -187,13 +189,13 @@ impl<'s> Plan<'s> {
         requires plan { IsPlan self.now }
         requires at { (all : List (List TheEvent)) × AreFound self.now all found.old ×
             IsAt self.now all place.now.state machine.now ×
-            IsAt self.now all place.now.state next.old }
+            IsTrial self.now all place.now.state next.old }
         ensures more { OnOk result ((all : List (List TheEvent)) →
             AreFound self.now all found.old → IsAt self.now all place.now.state machine.now →
-            IsAt self.now all place.now.state next.old → AreMore self.now all found.new) }
+            IsTrial self.now all place.now.state next.old → AreMore self.now all found.new) }
         ensures stopped { IfErr result (λ stop. (all : List (List TheEvent)) →
             AreFound self.now all found.old → IsAt self.now all place.now.state machine.now →
-            IsAt self.now all place.now.state next.old → IsStopped self.now all stop found.new) }
+            IsTrial self.now all place.now.state next.old → IsStopped self.now all stop found.new) }
     {
         if preemptions < place.preemptions {
             return Ok(());
@@ -202,13 +204,13 @@ impl<'s> Plan<'s> {
         Ok(())
     }
 
-    /// Tries those of these turns that may be taken with no more preemptions than this. Both
-    /// machines stand in the state.
+    /// Tries those of these turns that may be taken with no more preemptions than this. The
+    /// machine stands in the state.
     fn hunt_within(
         &self,
         alloc: Global,
         machine: &Machine<'s>,
-        next: &mut Machine<'s>,
+        next: &mut Trial<'s>,
         place: &Place,
         preemptions: u8,
         turns: &[Turn],
@@ -217,13 +219,13 @@ impl<'s> Plan<'s> {
         requires plan { IsPlan self.now }
         requires at { (all : List (List TheEvent)) × AreFound self.now all found.old ×
             IsAt self.now all place.now.state machine.now ×
-            IsAt self.now all place.now.state next.old }
+            IsTrial self.now all place.now.state next.old }
         ensures more { OnOk result ((all : List (List TheEvent)) →
             AreFound self.now all found.old → IsAt self.now all place.now.state machine.now →
-            IsAt self.now all place.now.state next.old → AreMore self.now all found.new) }
+            IsTrial self.now all place.now.state next.old → AreMore self.now all found.new) }
         ensures stopped { IfErr result (λ stop. (all : List (List TheEvent)) →
             AreFound self.now all found.old → IsAt self.now all place.now.state machine.now →
-            IsAt self.now all place.now.state next.old → IsStopped self.now all stop found.new) }
+            IsTrial self.now all place.now.state next.old → IsStopped self.now all stop found.new) }
     {
         let could_go_on = self.hunt_turns(alloc, machine, next, place, true, turns, found)?;
         let left = place.left(could_go_on);
@@ -253,7 +255,7 @@ impl<'s> Plan<'s> {
     {
         let unnoticed = machine.unnoticed(alloc)?;
         let turns = turns_ahead(alloc, self.script, &unnoticed)?;
-        let mut next = machine.copy(alloc)?;
+        let mut next = Trial::new(alloc, machine)?;
         let turns = turns.as_slice();
         let hunted = self.hunt_within(alloc, machine, &mut next, place, preemptions, turns, found);
         drop(next);
@@ -261,34 +263,55 @@ impl<'s> Plan<'s> {
     }
 
     /// Tries the turns that may be taken from the state of this number with no more preemptions
-    /// than this, and notes what it shows where all is quiet there.
+    /// than this, and notes what it shows where all is quiet there. The machine in it is kept.
     fn hunt_at(
         &self,
         alloc: Global,
         number: u32,
         preemptions: u8,
+        stations: &mut Stations<'s>,
         found: &mut Found,
     ) -> Result<(), Stop>
         requires plan { IsPlan self.now }
         requires number { number < length found.old.states.ways }
-        requires found { (all : List (List TheEvent)) × AreFound self.now all found.old }
+        requires found { (all : List (List TheEvent)) × AreFound self.now all found.old ×
+            AreStations self.now all stations.old }
         ensures more { OnOk result ((all : List (List TheEvent)) →
-            AreFound self.now all found.old → AreMore self.now all found.new) }
+            AreFound self.now all found.old → AreStations self.now all stations.old →
+            AreMoreBy self.now all found.new stations.new) }
         ensures stopped { IfErr result (λ stop. (all : List (List TheEvent)) →
-            AreFound self.now all found.old → IsStopped self.now all stop found.new) }
+            AreFound self.now all found.old → AreStations self.now all stations.old →
+            IsStopped self.now all stop found.new) }
     {
-        let machine = self.machine_at(alloc, &found.states, number)?;
+        let machine = self.machine_at(alloc, &found.states, stations, number)?;
         let place = Place::new(number, found.states.mark_of(number));
         self.note_end(&machine, number, found);
-        let hunted = self.hunt_ahead(alloc, &machine, &place, preemptions, found);
-        drop(machine);
-        hunted
+        match self.hunt_ahead(alloc, &machine, &place, preemptions, found) {
+            Ok(()) => {
+                let room = self.room(found.states.len());
+                stations.keep(alloc, number, machine, room);
+                Ok(())
+            }
+            Err(stop) => {
+                drop(machine);
+                Err(stop)
+            }
+        }
     }
 
-    /// Hunts from each state, and each that is found by this, until all failed that can.
-    fn hunt_all(&self, alloc: Global, preemptions: u8, found: &mut Found) -> Result<(), Stop>
+    /// Hunts from each state, and each that is found by this, until all failed that can. No machine
+    /// is kept yet.
+    fn hunt_each(
+        &self,
+        alloc: Global,
+        preemptions: u8,
+        stations: &mut Stations<'s>,
+        found: &mut Found,
+    ) -> Result<(), Stop>
         requires plan { IsPlan self.now }
         requires start { IsStart self.now found.old }
+        requires kept { stations.old.kept.items ≡ [] }
+        requires next { stations.old.next.items ≡ [] }
         ensures more { OnOk result (AreMore self.now [] found.new) }
         ensures stopped { IfErr result (λ stop. IsStopped self.now [] stop found.new) }
     {
@@ -298,10 +321,23 @@ impl<'s> Plan<'s> {
             {
                 return Ok(());
             }
-            self.hunt_at(alloc, number, preemptions, found)?;
+            self.hunt_at(alloc, number, preemptions, stations, found)?;
             found.forget_leads(alloc);
         }
         Ok(())
+    }
+
+    /// Hunts from each state, and each that is found by this, until all failed that can.
+    fn hunt_all(&self, alloc: Global, preemptions: u8, found: &mut Found) -> Result<(), Stop>
+        requires plan { IsPlan self.now }
+        requires start { IsStart self.now found.old }
+        ensures more { OnOk result (AreMore self.now [] found.new) }
+        ensures stopped { IfErr result (λ stop. IsStopped self.now [] stop found.new) }
+    {
+        let mut stations = Stations::new(alloc);
+        let hunted = self.hunt_each(alloc, preemptions, &mut stations, found);
+        drop(stations);
+        hunted
     }
 }
 

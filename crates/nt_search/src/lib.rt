@@ -13,6 +13,7 @@ mod plan;
 mod rounding;
 mod searching;
 mod states;
+mod stations;
 mod stop;
 mod ways;
 

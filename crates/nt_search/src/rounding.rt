@@ -19,6 +19,7 @@ ghost use Rattle.nt_search.specs.Ways.{Lead};
 use crate::machine::Machine;
 use crate::plan::Plan;
 use crate::states::States;
+use crate::stations::Stations;
 use crate::stop::Stop;
 use nt_ahead::turns_ahead;
 use nt_event::limits::{EVENTS, TURNS};
@@ -207,7 +208,7 @@ impl<'s> Plan<'s> {
         ensures { IfOk result (λ b. IsTrue b →
             GoRound self.now.script.now self.now.limit (length round.now) turns.new.items) }
     {
-        let mut machine = self.machine_at(alloc, states, round[0])?;
+        let mut machine = self.machine_at(alloc, states, &Stations::new(alloc), round[0])?;
         let is_round = self.go_round(alloc, &mut machine, turns, states, round);
         drop(machine);
         Ok(is_round?)

@@ -10,15 +10,18 @@ ghost use Rattle.nt_verdict.specs.Fails.{Fails};
 ghost use Rattle.nt_search.specs.Ends.{IsEndOf, TellsOfEnds, is_whole};
 ghost use Rattle.nt_search.specs.declared.failures.Failure.{Failure as TheFailure};
 ghost use Rattle.nt_search.specs.Failures.{EachUnnoted, FailsAt};
-ghost use Rattle.nt_search.specs.Searches.{AreFound, IsAt, IsExpanded, IsPlan, IsSearched};
+ghost use Rattle.nt_search.specs.Searches.{AreFound, IsAt, IsPlan, IsSearched};
 ghost use Rattle.nt_search.specs.Searches.{IsShownIn, IsStart, IsStopped, IsWayStop};
 ghost use Rattle.nt_rounds.specs.Depths.{IsInside};
-ghost use Rattle.nt_search.specs.Ways.{AreWays};
+ghost use Rattle.nt_search.specs.Machines.{Stands};
+ghost use Rattle.nt_search.specs.Stations.{AreStations, BeginsAt, IsExpandedBy, IsPathStop};
+ghost use Rattle.nt_search.specs.Ways.{AreWays, Lead};
 
 use crate::found::{End, Found, Searched};
 use crate::machine::Machine;
 use crate::plan::Plan;
 use crate::states::{States, Way};
+use crate::stations::Stations;
 use crate::stop::Stop;
 use nt_event::limits::{EVENTS, TURNS};
 use nt_event::{CpuNo, Script, Turn};
@@ -53,29 +56,47 @@ impl<'s> Plan<'s> {
         }
     }
 
-    /// A machine in the state of this number.
-    pub(crate) fn machine_at(
+    /// The machine that begins there: as the one at this place, or with no event.
+    fn machine_from(
         &self,
         alloc: Global,
-        states: &States,
-        number: u32,
-    ) -> Result<Machine<'s>, Stop>
+        stations: &Stations<'s>,
+        place: Option<usize>,
+    ) -> Result<Machine<'s>, AllocError>
         requires plan { IsPlan self.now }
-        requires number { number < length states.now.ways }
-        requires ways { (all : List (List TheEvent)) ×
-            AreWays self.now.script.now all states.now.ways }
-        ensures at { IfOk result (λ m. (all : List (List TheEvent)) →
-            AreWays self.now.script.now all states.now.ways → IsAt self.now all number m) }
-        ensures cause { IfErr result (λ stop. (all : List (List TheEvent)) →
-            AreWays self.now.script.now all states.now.ways → IsWayStop self.now all stop) }
+        requires begins { (state : ℕ) × BeginsAt stations.now place state }
+        ensures { IfOk result (λ m. (all : List (List TheEvent)) (state : ℕ) →
+            get_or all 0 [] ≡ [] → AreStations self.now all stations.now →
+            BeginsAt stations.now place state → Stands self.now.script.now self.now.limit
+            self.now.watched.items (get_or all state []) m) }
     {
-        let turns = states.turns_to(alloc, number)?;
-        if self.limit as usize <= turns.len() {
+        match place {
+            Some(place) => stations.kept[place].machine.copy(alloc),
+            None => Machine::new(alloc, self.script, self.limit, self.watched.as_slice()),
+        }
+    }
+
+    /// The machine behind these turns, which may be taken where it stands.
+    fn gone_on(&self, mut machine: Machine<'s>, turns: &[Turn]) -> Result<Machine<'s>, Stop>
+        requires plan { IsPlan self.now }
+        requires at { (from : List TheEvent) × (h : List TheEvent) ×
+            Lead self.now.script.now turns.now from h ×
+            Stands self.now.script.now self.now.limit self.now.watched.items from machine }
+        ensures at { IfOk result (λ m. (from : List TheEvent) (h : List TheEvent) →
+            Lead self.now.script.now turns.now from h →
+            Stands self.now.script.now self.now.limit self.now.watched.items from machine.entry →
+            Stands self.now.script.now self.now.limit self.now.watched.items h m ×
+            (length h < self.now.limit)) }
+        ensures cause { IfErr result (λ stop. (from : List TheEvent) (h : List TheEvent) →
+            Lead self.now.script.now turns.now from h →
+            Stands self.now.script.now self.now.limit self.now.watched.items from machine.entry →
+            IsPathStop self.now.limit h stop) }
+    {
+        if self.limit.saturating_sub(machine.took) as usize <= turns.len() {
+            drop(machine);
             return Err(Stop::Turns);
         }
-        let watched = self.watched.as_slice();
-        let mut machine = Machine::new(alloc, self.script, self.limit, watched)?;
-        match self.walk(&mut machine, turns.as_slice()) {
+        match self.walk(&mut machine, turns) {
             Ok(()) => Ok(machine),
             Err(_) => {
                 drop(machine);
@@ -84,22 +105,87 @@ impl<'s> Plan<'s> {
         }
     }
 
-    /// Expands the state of this number.
-    fn expand_at(&self, alloc: Global, number: u32, found: &mut Found) -> Result<(), Stop>
+    /// A machine in the state of this number. It goes on from one of these machines, if one is in
+    /// an earlier state of its way.
+    pub(crate) fn machine_at(
+        &self,
+        alloc: Global,
+        states: &States,
+        stations: &Stations<'s>,
+        number: u32,
+    ) -> Result<Machine<'s>, Stop>
+        requires plan { IsPlan self.now }
+        requires number { number < length states.now.ways }
+        requires ways { (all : List (List TheEvent)) ×
+            AreWays self.now.script.now all states.now.ways ×
+            AreStations self.now all stations.now }
+        ensures at { IfOk result (λ m. (all : List (List TheEvent)) →
+            AreWays self.now.script.now all states.now.ways →
+            AreStations self.now all stations.now → IsAt self.now all number m) }
+        ensures cause { IfErr result (λ stop. (all : List (List TheEvent)) →
+            AreWays self.now.script.now all states.now.ways →
+            AreStations self.now all stations.now → IsWayStop self.now all stop) }
+    {
+        let path = states.path_to(alloc, stations, number)?;
+        let machine = self.machine_from(alloc, stations, path.station)?;
+        self.gone_on(machine, path.turns.as_slice())
+    }
+
+    /// Expands the state of this number, and keeps the machine in it.
+    fn expand_at(
+        &self,
+        alloc: Global,
+        number: u32,
+        stations: &mut Stations<'s>,
+        found: &mut Found,
+    ) -> Result<(), Stop>
         requires plan { IsPlan self.now }
         requires number { number < length found.old.states.ways }
-        requires at { (all : List (List TheEvent)) × AreFound self.now all found.old }
+        requires at { (all : List (List TheEvent)) × AreFound self.now all found.old ×
+            AreStations self.now all stations.old }
         requires opened { found.old.graph.opened ≡ [] }
         ensures expanded { OnOk result ((all : List (List TheEvent)) →
-            AreFound self.now all found.old →
-            IsExpanded self.now all (get_or all number []) found.old found.new) }
+            AreFound self.now all found.old → AreStations self.now all stations.old →
+            IsExpandedBy self.now all (get_or all number []) found.old found.new stations.new) }
         ensures stopped { IfErr result (λ stop. (all : List (List TheEvent)) →
-            AreFound self.now all found.old → IsStopped self.now all stop found.new) }
+            AreFound self.now all found.old → AreStations self.now all stations.old →
+            IsStopped self.now all stop found.new) }
     {
-        let machine = self.machine_at(alloc, &found.states, number)?;
-        let expanded = self.expand(alloc, &machine, number, found);
-        drop(machine);
-        expanded
+        let machine = self.machine_at(alloc, &found.states, stations, number)?;
+        match self.expand(alloc, &machine, number, found) {
+            Ok(()) => {
+                let room = self.room(found.states.len());
+                stations.keep(alloc, number, machine, room);
+                Ok(())
+            }
+            Err(stop) => {
+                drop(machine);
+                Err(stop)
+            }
+        }
+    }
+
+    /// Expands each state, and each that is found by this. No machine is kept yet.
+    fn expand_each(
+        &self,
+        alloc: Global,
+        stations: &mut Stations<'s>,
+        found: &mut Found,
+    ) -> Result<(), Stop>
+        requires plan { IsPlan self.now }
+        requires start { IsStart self.now found.old }
+        requires kept { stations.old.kept.items ≡ [] }
+        requires next { stations.old.next.items ≡ [] }
+        ensures searched { OnOk result (IsSearched self.now found.new) }
+        ensures stopped { IfErr result (λ stop. IsStopped self.now [] stop found.new) }
+    {
+        for number in 0..self.most {
+            if found.states.len() <= number as usize {
+                return Ok(());
+            }
+            self.expand_at(alloc, number, stations, found)?;
+        }
+        Ok(())
     }
 
     /// Expands each state, and each that is found by this.
@@ -109,13 +195,10 @@ impl<'s> Plan<'s> {
         ensures searched { OnOk result (IsSearched self.now found.new) }
         ensures stopped { IfErr result (λ stop. IsStopped self.now [] stop found.new) }
     {
-        for number in 0..self.most {
-            if found.states.len() <= number as usize {
-                return Ok(());
-            }
-            self.expand_at(alloc, number, found)?;
-        }
-        Ok(())
+        let mut stations = Stations::new(alloc);
+        let expanded = self.expand_each(alloc, &mut stations, found);
+        drop(stations);
+        expanded
     }
 }
 

@@ -7,9 +7,11 @@ ghost use Rattle.nt_event.specs.declared.scripts.Script.{Script as TheScript};
 ghost use Rattle.nt_search.specs.declared.states.Key.{Key as TheKey};
 ghost use Rattle.nt_search.specs.Keys.{AreNumbered};
 ghost use Rattle.nt_search.specs.States.{HasGrown, IsPutStop, are_equal, number_in, put as put_in};
+ghost use Rattle.nt_search.specs.Stations.{IsPath};
 ghost use Rattle.nt_search.specs.Ways.{AreWays, Lead};
 
 use crate::parts::Parts;
+use crate::stations::{Path, Stations};
 use crate::stop::Stop;
 use crate::ways::Ways;
 use indexmap::IndexSet;
@@ -56,6 +58,15 @@ impl Model for States {
     ghost Value = { Seen };
 
     ghost view = { λ a. record { parts = a.parts; keys = a.keys.keys; ways = a.ways } };
+}
+
+/// Whether a machine that comes from the state of this number begins there: as the one at that
+/// place, or with no event.
+fn begins_at(station: Option<usize>, state: u32) -> bool
+    ensures there { IsTrue result → station ≡ None → state ≡ 0 }
+    ensures later { result ≡ false → 0 < state }
+{
+    station.is_some() || state == 0
 }
 
 impl States {
@@ -168,6 +179,32 @@ impl States {
         }
     }
 
+    /// How a machine comes to the state of this number where these machines are kept.
+    pub(crate) fn path_to(
+        &self,
+        alloc: Global,
+        stations: &Stations,
+        number: u32,
+    ) -> Result<Path, AllocError>
+        requires number { number < length self.now.ways }
+        requires ways { (s : TheScript) × (all : List (List TheEvent)) ×
+            AreWays s all self.now.ways }
+        ensures { IfOk result (λ p. (s : TheScript) (all : List (List TheEvent)) →
+            AreWays s all self.now.ways → IsPath s all stations.now number p) }
+    {
+        let mut turns = Vec::new(alloc);
+        let mut at = number;
+        let mut station = stations.place_of(at);
+        while !begins_at(station, at) {
+            let way = self.ways.get(at);
+            turns.push(way.turn)?;
+            at = way.from;
+            station = stations.place_of(at);
+        }
+        turns.reverse();
+        Ok(Path { station, turns })
+    }
+
     /// The turns that lead to the state of this number from that of no event, in order.
     pub fn turns_to(&self, alloc: Global, number: u32) -> Result<Vec<Turn>, AllocError>
         requires number { number < length self.now.ways }
@@ -176,14 +213,7 @@ impl States {
         ensures { IfOk result (λ turns. (s : TheScript) (all : List (List TheEvent)) →
             AreWays s all self.now.ways → Lead s turns.items [] (get_or all number [])) }
     {
-        let mut turns = Vec::new(alloc);
-        let mut at = number;
-        while 0 < at {
-            let way = self.ways.get(at);
-            turns.push(way.turn)?;
-            at = way.from;
-        }
-        turns.reverse();
-        Ok(turns)
+        let path = self.path_to(alloc, &Stations::new(alloc), number)?;
+        Ok(path.turns)
     }
 }

@@ -1,7 +1,7 @@
 use Rattle.std.proofs.Common.{subst, sym}
 use Rattle.std.proofs.lemmas.Result.{IfErr-weaker, err_from_is_err_and, on_ok_weaker}
 use Rattle.nt_search.specs.declared.stop.Stop.{Stop}
-use Rattle.nt_search.specs.Searches.{IsAt, IsStopped}
+use Rattle.nt_search.specs.Searches.{IsStopped}
 use Rattle.nt_search.proofs.Listing.{if_err}
 use Rattle.nt_search.proofs.TryingMore.{starved}
 use Rattle.nt_search.proofs.plan.Plan.hunt_ahead.Goals as goal
@@ -31,7 +31,7 @@ hunt_within-hunted-requires-clause-at c =
       c.requires.at.0,
       c.requires.at.1,
       at,
-      record { state = at.state; stands = c.in_ok-next.ensures x.script.now x.limit x.watched.items _ at.stands; short = at.short },
+      c.in_ok-next.ensures x c.requires.at.0 c.args.place.now.state at,
     )
 
 pub returns-clause-stopped : goal.returns-clause-stopped
@@ -39,9 +39,7 @@ returns-clause-stopped c =
     let x = c.args.self.now in
     IfErr-weaker c.hunt_within-hunted.result _ _
     (λ stop h all are at.
-    let next : IsAt x all c.args.place.now.state c.in_ok-next.next =
-    record { state = at.state; stands = c.in_ok-next.ensures x.script.now x.limit x.watched.items _ at.stands; short = at.short } in
-    h all are at next)
+    h all are at (c.in_ok-next.ensures x all c.args.place.now.state at))
     c.hunt_within-hunted.ensures.stopped
 
 pub returns-clause-more : goal.returns-clause-more
@@ -49,7 +47,5 @@ returns-clause-more c =
     let x = c.args.self.now in
     on_ok_weaker c.hunt_within-hunted.result
     (λ h all are at.
-    let next : IsAt x all c.args.place.now.state c.in_ok-next.next =
-    record { state = at.state; stands = c.in_ok-next.ensures x.script.now x.limit x.watched.items _ at.stands; short = at.short } in
-    h all are at next)
+    h all are at (c.in_ok-next.ensures x all c.args.place.now.state at))
     c.hunt_within-hunted.ensures.more

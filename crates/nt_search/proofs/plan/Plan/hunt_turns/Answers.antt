@@ -1,10 +1,10 @@
-use Rattle.std.proofs.Common.{List, subst, sym, ◌++◌}
+use Rattle.std.proofs.Common.{subst, sym, ◌++◌}
 use Rattle.std.proofs.lemmas.Result.{err_from_is_err_and}
-use Rattle.nt_event.specs.declared.events.Event.{Event}
 use Rattle.nt_search.specs.declared.stop.Stop.{Stop}
 use Rattle.nt_search.specs.Searches.{IsStopped}
 use Rattle.nt_search.proofs.Hunts.{more_on, none_more}
 use Rattle.nt_search.proofs.Listing.{if_err}
+use Rattle.nt_search.proofs.Beginning.{trial_more}
 use Rattle.nt_search.proofs.TryingMore.{at_more, stopped_more}
 use Rattle.nt_search.proofs.plan.Plan.hunt_turns.Goals as goal
 
@@ -23,7 +23,7 @@ hunt_turn-requires-clause-at c =
       at.0 ++ a.more,
       a.found,
       at_more x at.0 a.more n c.args.machine.now at.2,
-      at_more x at.0 a.more n c.loop-index.next (c.loop-index.invariant.next at.0 at.2 at.3),
+      trial_more x at.0 a.more n c.loop-index.next (c.loop-index.invariant.next at.0 at.2 at.3),
     )
 
 pub returns-in_err-taken-clause-stopped : goal.returns-in_err-taken-clause-stopped
@@ -37,7 +37,7 @@ returns-in_err-taken-clause-stopped c =
     subst (λ (stop : Stop). IsStopped x all stop c.hunt_turn.new.found) (sym r.2)
     (stopped_more x all a.more _ c.hunt_turn.new.found
     (c.in_err-taken.ensures.stopped (all ++ a.more) a.found (at_more x all a.more n c.args.machine.now at)
-    (at_more x all a.more n c.loop-index.next (c.loop-index.invariant.next all at next)))))
+    (trial_more x all a.more n c.loop-index.next (c.loop-index.invariant.next all at next)))))
 
 pub loop-index-preserved : goal.loop-index-preserved
 loop-index-preserved c = record {
@@ -47,6 +47,6 @@ loop-index-preserved c = record {
       let a = c.loop-index.invariant.more all h at next in
       more_on x all a.more c.hunt_turn.new.found
       (c.in_ok-taken.ensures.more (all ++ a.more) a.found (at_more x all a.more n c.args.machine.now at)
-      (at_more x all a.more n c.loop-index.next (c.loop-index.invariant.next all at next)));
+      (trial_more x all a.more n c.loop-index.next (c.loop-index.invariant.next all at next)));
   next = λ all at next. c.in_ok-taken.ensures.next all at (c.loop-index.invariant.next all at next);
 }

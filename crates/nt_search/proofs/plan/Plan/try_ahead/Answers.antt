@@ -2,7 +2,7 @@ use Rattle.std.proofs.Common.{[], List, get_or, subst, sym}
 use Rattle.std.proofs.lemmas.Result.{IfErr-weaker, err_from_is_err_and, on_ok_weaker}
 use Rattle.nt_event.specs.declared.events.Turn.{Turn}
 use Rattle.nt_search.specs.declared.stop.Stop.{Stop}
-use Rattle.nt_search.specs.Searches.{AreTried, IsAt, IsStopped}
+use Rattle.nt_search.specs.Searches.{AreTried, IsStopped}
 use Rattle.nt_search.proofs.Listing.{if_err}
 use Rattle.nt_search.proofs.TryingMore.{starved}
 use Rattle.nt_search.proofs.plan.Plan.try_ahead.Goals as goal
@@ -32,7 +32,7 @@ try_all-tried-requires-clause-at c =
       c.requires.at.0,
       c.requires.at.1,
       at,
-      record { state = at.state; stands = c.in_ok-next.ensures x.script.now x.limit x.watched.items _ at.stands; short = at.short },
+      c.in_ok-next.ensures x c.requires.at.0 c.args.from at,
     )
 
 pub returns-clause-stopped : goal.returns-clause-stopped
@@ -40,9 +40,7 @@ returns-clause-stopped c =
     let x = c.args.self.now in
     IfErr-weaker c.try_all-tried.result _ _
     (λ stop h all are at.
-    let next : IsAt x all c.args.from c.in_ok-next.next =
-    record { state = at.state; stands = c.in_ok-next.ensures x.script.now x.limit x.watched.items _ at.stands; short = at.short } in
-    h all are at next)
+    h all are at (c.in_ok-next.ensures x all c.args.from at))
     c.try_all-tried.ensures.stopped
 
 pub returns-clause-tried : goal.returns-clause-tried
@@ -52,10 +50,8 @@ returns-clause-tried c =
     on_ok_weaker c.try_all-tried.result
     (λ h all are at.
     let past = get_or all c.args.from [] in
-    let next : IsAt x all c.args.from c.in_ok-next.next =
-    record { state = at.state; stands = c.in_ok-next.ensures s x.limit x.watched.items _ at.stands; short = at.short } in
     let whole = c.in_ok-turns.ensures past (c.in_ok-unnoticed.ensures.asked s x.limit x.watched.items past at.stands) in
     let tried = subst (λ (ts : List Turn). AreTried x all past ts c.args.found.now c.try_all-tried.new.found) c.as_slice.ensures.value
-    (h all are at next) in
+    (h all are at (c.in_ok-next.ensures x all c.args.from at)) in
     (c.in_ok-turns.turns.items, whole, tried))
     c.try_all-tried.ensures.tried

@@ -7,6 +7,7 @@ use Rattle.nt_event.specs.declared.events.Turn.TheVariants.{Next}
 use Rattle.nt_search.specs.declared.stop.Stop.{Stop}
 use Rattle.nt_search.specs.Searches.{AreTried, IsStopped}
 use Rattle.nt_search.proofs.Listing.{if_err}
+use Rattle.nt_search.proofs.Beginning.{trial_more}
 use Rattle.nt_search.proofs.TryingMore.{at_more, none_of, one_more, stopped_more}
 use Rattle.nt_search.proofs.plan.Plan.try_all.Goals as goal
 
@@ -25,7 +26,7 @@ try_turn-requires-clause-at c =
       at.0 ++ a.more,
       a.found,
       at_more x at.0 a.more c.args.from c.args.machine.now at.2,
-      at_more x at.0 a.more c.args.from c.loop-place.next n,
+      trial_more x at.0 a.more c.args.from c.loop-place.next n,
     )
 
 pub returns-in_err-try_turn-clause-stopped : goal.returns-in_err-try_turn-clause-stopped
@@ -39,7 +40,7 @@ returns-in_err-try_turn-clause-stopped c =
     subst (λ (stop : Stop). IsStopped x all stop c.try_turn.new.found) (sym r.2)
     (stopped_more x all a.more _ c.try_turn.new.found
     (c.in_err-try_turn.ensures.stopped (all ++ a.more) a.found (at_more x all a.more c.args.from c.args.machine.now at)
-    (at_more x all a.more c.args.from c.loop-place.next n))))
+    (trial_more x all a.more c.args.from c.loop-place.next n))))
 
 pub loop-place-preserved : goal.loop-place-preserved
 loop-place-preserved c = record {
@@ -51,7 +52,7 @@ loop-place-preserved c = record {
       let a = c.loop-place.invariant.tried all h at next in
       let n = c.loop-place.invariant.next all h at next in
       let b = c.in_ok-try_turn.ensures.tried (all ++ a.more) a.found (at_more x all a.more c.args.from c.args.machine.now at)
-      (at_more x all a.more c.args.from c.loop-place.next n) in
+      (trial_more x all a.more c.args.from c.loop-place.next n) in
       subst (λ (ts : List Turn). AreTried x all (get_or all c.args.from []) ts c.args.found.now c.try_turn.new.found)
       (sym (take_more turns i (Next (record { 0 = 0 })) c.loop-place-test.true))
       (one_more x all c.args.from (take i turns) t c.args.found.now c.loop-place.found c.try_turn.new.found at.state a b);
