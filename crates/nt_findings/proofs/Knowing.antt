@@ -4,7 +4,7 @@ use Rattle.std.proofs.lemmas.Bool.{ltb-false, ltb-true}
 use Rattle.std.proofs.lemmas.Bool.Decides.{nat_tests}
 use Rattle.std.proofs.lemmas.List.{get_or-append-add, get_or-set_other, get_or-set_same, get_or_append_left, get_or_default, length-append, length-map}
 use Rattle.std.proofs.lemmas.List.{length-set}
-use Rattle.std.specs.Prelude.{Bool, List, None, Option, Some, [], false, get_or, is_none, length, nat_lt, refl, set, suc, true, zero, ℕ, ◌++◌, ◌+◌, ◌<◌, ◌==◌}
+use Rattle.std.specs.Prelude.{Bool, List, None, Option, Some, [], false, get_or, length, nat_lt, refl, set, suc, true, zero, ℕ, ◌++◌, ◌+◌, ◌<◌, ◌==◌}
 use Rattle.std.specs.Prelude.{◌∷◌}
 use Rattle.std.specs.Prelude.{◌≡◌, ◌⊎◌}
 use Rattle.nt_event.specs.declared.scripts.Script.{Script}

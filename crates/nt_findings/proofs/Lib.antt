@@ -4,3 +4,4 @@ pub mod Knowing
 pub mod Showing
 pub mod Opened
 pub mod Saying
+pub mod Joining

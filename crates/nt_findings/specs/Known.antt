@@ -43,6 +43,16 @@ pub record AreNotedTo (places : List ℕ) (failures : List (Option Failure)) (ol
 abbrev pub AreNotedAt : List ℕ → List (Option Failure) → List (Option ℕ) → List (Option ℕ) → Type 0
 AreNotedAt places failures old new = AreNotedTo places failures old new (length places)
 
+-- of the first places, so many, what is known in one of two lists is known, and no more; that of the second goes before
+pub record AreJoinedTo (others old new : List (Option ℕ)) (count : ℕ) : Type 0 where
+  pub length_is : length new ≡ length old
+  pub each : (j : ℕ) → (get_or new j None ≡ get_or old j None) ⊎ (get_or new j None ≡ get_or others j None)
+  pub joined : (j : ℕ) → j < count → get_or new j None ≡ None → get_or others j None ≡ None
+
+-- of all places
+abbrev pub AreJoined : List (Option ℕ) → List (Option ℕ) → List (Option ℕ) → Type 0
+AreJoined others old new = AreJoinedTo others old new (length others)
+
 -- where all states were searched, each expectation but `always ends` of which no failure is known holds
 abbrev pub HoldTheOthers : Script → Bool → List Expectation → List (Option ℕ) → Type 0
 HoldTheOthers s whole xs fails =

@@ -58,8 +58,7 @@ impl<'a> Question<'a> {
         ensures { IfOk result (IsAnswer self.now.script.now expectations.now) }
     {
         let mut fails = none_known(alloc, self.expectations.len())?;
-        let _none = self.hunt(alloc, &mut fails, None)?;
-        let finished = self.finish(alloc, &mut fails, None)?;
+        let finished = self.settle(alloc, &mut fails, None)?;
         let script = self.script;
         let known = fails.as_slice();
         Ok(Answer {

@@ -1,7 +1,7 @@
 //! What is asked of a script, and the searches that answer it.
 ghost use Rattle.std.specs.Option.{option_to_list};
 ghost use Rattle.std.specs.Prelude.{◌≡◌, ◌<◌, ◌++◌, IfOk, IfSome, List, None, OnOk, Some, get_or};
-ghost use Rattle.std.specs.Prelude.{length, not, ℕ};
+ghost use Rattle.std.specs.Prelude.{Option, false, length, not, true, ℕ};
 ghost use Rattle.nt_event.specs.declared.events.Event.{Event as TheEvent};
 ghost use Rattle.nt_event.specs.declared.scripts.Script.{Script as TheScript};
 ghost use Rattle.nt_expect.specs.declared.expectations.Expectation.{Expectation as Expected};
@@ -10,13 +10,14 @@ ghost use Rattle.nt_search.specs.Ends.{TellsOfEnds, is_whole};
 ghost use Rattle.nt_search.specs.Failures.{AreNoted, IsFailure};
 ghost use Rattle.nt_search.specs.Searches.{IsShownIn};
 ghost use Rattle.nt_search.specs.Ways.{AreWays};
+ghost use Rattle.nt_findings.specs.declared.question.Question.{Question as TheQuestion};
 ghost use Rattle.nt_findings.specs.Known.{AreKnown, at_places};
 ghost use Rattle.nt_findings.specs.Questions.{AreOpen, IsFinished, IsQuestion, IsShownFor};
 ghost use Rattle.nt_findings.specs.Verdicts.{IsSaid};
 ghost use Rattle.nt_findings.specs.Ways.{IsShownBy};
 
 use crate::answering::{count_of, is_whole, of_ends};
-use crate::unknown::{at_places, note, places_of};
+use crate::unknown::{at_places, has_known, none_known, note, note_others, places_of};
 use nt_ask::Verdict;
 use nt_event::{Script, Turn};
 use nt_expect::Expectation;
@@ -28,6 +29,10 @@ const HUNTS: u8 = 3;
 
 /// How many states a hunt may find. What is not found soon is found by the search of all states.
 const HUNT_STATES: u32 = 10_000;
+
+/// How many states the first search may find. Where there are no more, and no expectation fails,
+/// hunts would take longer than the search.
+const FEW: u32 = 10_000;
 
 /// What is asked of a script.
 #[derive(Clone, Copy)]
@@ -77,6 +82,41 @@ pub(crate) struct Finished {
     pub(crate) ends: Verdict,
     /// Turns that show it of the expectation that is wanted.
     pub(crate) shown: Option<Shown>,
+}
+
+impl Finished {
+    /// What is left where a hunt showed it, and not all states were searched.
+    fn of(shown: Option<Shown>) -> Finished
+        ensures whole { result.is_whole ≡ false }
+        ensures ends { (s : TheScript) → IsSaid s true AlwaysEnds result.ends }
+        ensures shown { result.shown ≡ shown }
+    {
+        Finished {
+            states: 0,
+            edges: 0,
+            is_whole: false,
+            ends: Verdict::Unknown,
+            shown,
+        }
+    }
+
+    /// The same, with these turns in place of its own, if there are some.
+    fn shown_by(self, shown: Option<Shown>) -> Finished
+        ensures { (q : TheQuestion) (wanted : Option ℕ) (fails : List (Option ℕ)) →
+            IsFinished q wanted fails self → IsShownFor q wanted shown →
+            IsFinished q wanted fails result }
+    {
+        if shown.is_none() {
+            return self;
+        }
+        Finished {
+            states: self.states,
+            edges: self.edges,
+            is_whole: self.is_whole,
+            ends: self.ends,
+            shown,
+        }
+    }
 }
 
 /// The failure that was noted of the expectation at this place.
@@ -340,5 +380,104 @@ impl<'a> Question<'a> {
     {
         let left = self.open(alloc, fails.as_slice())?;
         self.search_open(alloc, &left, fails, wanted)
+    }
+
+    /// The same of searches that find few states.
+    pub(crate) fn few(&self) -> Question<'a>
+        ensures same { result ≡ record self.now { most = result.most } }
+        ensures question { IsQuestion self.now → IsQuestion result }
+    {
+        Question {
+            script: self.script,
+            expectations: self.expectations,
+            limit: self.limit,
+            most: self.most.min(FEW),
+        }
+    }
+
+    /// Hunts where the search of few states, which found all and left this, knows a failure of what
+    /// is wanted, or of some expectation: runs with few preemptions are easier to read.
+    fn hunt_again(
+        &self,
+        alloc: Global,
+        fails: &mut Vec<Option<u32>>,
+        wanted: Option<usize>,
+        few: &Finished,
+        known: &[Option<u32>],
+    ) -> Result<Option<Shown>, AllocError>
+        requires question { IsQuestion self.now }
+        requires known { AreKnown self.now.script.now self.now.expectations.now fails.old.items }
+        ensures known { AreKnown self.now.script.now self.now.expectations.now fails.new.items }
+        ensures shown { IfOk result (IsShownFor self.now wanted) }
+    {
+        let is_shown = few.shown.is_some();
+        if is_shown || (wanted.is_none() && has_known(known)) {
+            self.hunt(alloc, fails, wanted)
+        } else {
+            Ok(None)
+        }
+    }
+
+    /// What the search of few states left, which found all. What is known by hunts goes before what
+    /// it knows.
+    fn settle_few(
+        &self,
+        alloc: Global,
+        fails: &mut Vec<Option<u32>>,
+        wanted: Option<usize>,
+        few: Finished,
+        known: &[Option<u32>],
+    ) -> Result<Finished, AllocError>
+        requires question { IsQuestion self.now }
+        requires known { AreKnown self.now.script.now self.now.expectations.now fails.old.items }
+        requires few { AreKnown self.now.script.now self.now.expectations.now known.now }
+        requires finished { IsFinished self.now wanted known.now few }
+        ensures known { AreKnown self.now.script.now self.now.expectations.now fails.new.items }
+        ensures finished { IfOk result (IsFinished self.now wanted fails.new.items) }
+    {
+        let shown = self.hunt_again(alloc, fails, wanted, &few, known)?;
+        note_others(known, fails);
+        Ok(few.shown_by(shown))
+    }
+
+    /// What hunts and the search of all states leave.
+    fn settle_all(
+        &self,
+        alloc: Global,
+        fails: &mut Vec<Option<u32>>,
+        wanted: Option<usize>,
+    ) -> Result<Finished, AllocError>
+        requires question { IsQuestion self.now }
+        requires known { AreKnown self.now.script.now self.now.expectations.now fails.old.items }
+        ensures known { AreKnown self.now.script.now self.now.expectations.now fails.new.items }
+        ensures finished { IfOk result (IsFinished self.now wanted fails.new.items) }
+    {
+        let shown = self.hunt(alloc, fails, wanted)?;
+        if shown.is_some() {
+            return Ok(Finished::of(shown));
+        }
+        self.finish(alloc, fails, wanted)
+    }
+
+    /// Searches few states. Where these are not all, it hunts, and then searches all. Failures are
+    /// noted.
+    pub(crate) fn settle(
+        &self,
+        alloc: Global,
+        fails: &mut Vec<Option<u32>>,
+        wanted: Option<usize>,
+    ) -> Result<Finished, AllocError>
+        requires question { IsQuestion self.now }
+        requires known { AreKnown self.now.script.now self.now.expectations.now fails.old.items }
+        ensures known { AreKnown self.now.script.now self.now.expectations.now fails.new.items }
+        ensures finished { IfOk result (IsFinished self.now wanted fails.new.items) }
+    {
+        let mut known = none_known(alloc, self.expectations.len())?;
+        let few = self.few().finish(alloc, &mut known, wanted)?;
+        if few.is_whole {
+            self.settle_few(alloc, fails, wanted, few, known.as_slice())
+        } else {
+            self.settle_all(alloc, fails, wanted)
+        }
     }
 }

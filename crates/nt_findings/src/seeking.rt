@@ -63,10 +63,7 @@ impl<'a> Question<'a> {
             (IsSought self.now.script.now (get_or self.now.expectations.now place AlwaysEnds)) }
     {
         let mut fails = none_known(alloc, self.expectations.len())?;
-        if let Some(shown) = self.hunt(alloc, &mut fails, Some(place))? {
-            return Ok(Sought::Fails(shown));
-        }
-        let finished = self.finish(alloc, &mut fails, Some(place))?;
+        let finished = self.settle(alloc, &mut fails, Some(place))?;
         Ok(sought_by(finished, fails[place]))
     }
 
@@ -129,8 +126,13 @@ impl<'a> Question<'a> {
         ensures { IfOk result (IsSought self.now.script.now AlwaysEnds) }
     {
         let mut fails = none_known(alloc, self.expectations.len())?;
-        let _none = self.hunt(alloc, &mut fails, None)?;
-        self.seek_round_of(alloc, fails.as_slice())
+        match self.few().seek_round_of(alloc, fails.as_slice())? {
+            Sought::Unknown => {
+                let _none = self.hunt(alloc, &mut fails, None)?;
+                self.seek_round_of(alloc, fails.as_slice())
+            }
+            sought => Ok(sought),
+        }
     }
 
     /// What is found of the expectation at this place.

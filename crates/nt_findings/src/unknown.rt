@@ -1,7 +1,7 @@
 //! Of which expectations no failure is known yet.
 ghost use Rattle.std.specs.Prelude.{◌≡◌, ◌<◌, All, IfOk, None, Some, get_or, length, set, ℕ};
 ghost use Rattle.nt_search.specs.declared.failures.Failure.{Failure as TheFailure};
-ghost use Rattle.nt_findings.specs.Known.{AreNotedAt, AreUnknown, at_places};
+ghost use Rattle.nt_findings.specs.Known.{AreJoined, AreNotedAt, AreUnknown, at_places};
 
 use nt_expect::Expectation;
 use nt_search::Failure;
@@ -70,5 +70,33 @@ pub(crate) fn note(places: &[usize], failures: &[Option<Failure>], fails: &mut V
 {
     for index in 0..places.len() {
         note_one(places[index], failures[index], fails);
+    }
+}
+
+/// Whether some expectation is known to fail.
+pub(crate) fn has_known(fails: &[Option<u32>]) -> bool {
+    fails.iter().any(|at| at.is_some())
+}
+
+/// Notes where the expectation at this place fails, if no failure of it is known.
+fn note_other(place: usize, at: Option<u32>, fails: &mut Vec<Option<u32>>)
+    requires { place < length fails.old.items }
+    ensures kept { (get_or fails.old.items place None ≡ None → ⊥) →
+        fails.new.items ≡ fails.old.items }
+    ensures noted { get_or fails.old.items place None ≡ None →
+        fails.new.items ≡ set fails.old.items place at }
+{
+    if fails[place].is_none() {
+        fails[place] = at;
+    }
+}
+
+/// Notes where expectations fail of which no failure is known, as these say.
+pub(crate) fn note_others(others: &[Option<u32>], fails: &mut Vec<Option<u32>>)
+    requires { length others.now ≡ length fails.old.items }
+    ensures { AreJoined others.now fails.old.items fails.new.items }
+{
+    for place in 0..others.len() {
+        note_other(place, others[place], fails);
     }
 }

@@ -5,7 +5,7 @@ use Rattle.nt_findings.proofs.question.Question.seek_failure.Goals as goal
 
 pub returns : goal.returns
 returns c =
-    let all = c.finish.new.fails.items in
+    let all = c.settle.new.fails.items in
     let count = c.in_ok-finished.ensures.known.count in
     let place = c.requires.place in
     let inside : c.args.place < length all = omega (arith, count, place) in

@@ -1,0 +1,11 @@
+use Rattle.std.proofs.Common.{List, subst, sym}
+use Rattle.std.specs.Prelude.{Option, ℕ}
+use Rattle.nt_findings.specs.Questions.{IsFinished}
+use Rattle.nt_findings.proofs.Finishing.{few_finished}
+use Rattle.nt_findings.proofs.question.Question.settle.Goals as goal
+
+pub settle_few-requires-clause-finished : goal.settle_few-requires-clause-finished
+settle_few-requires-clause-finished c =
+    let q = c.args.self.now in
+    subst (λ (fails : List (Option ℕ)). IsFinished q c.args.wanted fails c.in_ok-few.few) (sym c.as_slice.ensures.value)
+    (few_finished q c.few.result c.few.result.most c.args.wanted _ c.in_ok-few.few c.few.ensures.same c.in_ok-few.ensures.finished)
