@@ -1,5 +1,6 @@
 -- What is written: what a search says of each expectation; and the exit statuses.
-use Rattle.std.specs.Prelude.{◌≡◌, ℕ, ◌+◌, Bool, true, false, List, [], ◌∷◌, ◌++◌, codes, decimal, if◌then◌else◌}
+use Rattle.std.specs.Prelude.{◌≡◌, ℕ, ◌+◌, Bool, true, false, List, None, Option, Some, [], ◌∷◌, ◌++◌, codes}
+use Rattle.std.specs.Prelude.{decimal, if◌then◌else◌}
 use Rattle.std.specs.List.{join_with_byte, list_any}
 use Rattle.nt_event.specs.declared.scripts.Script.{Script}
 use Rattle.nt_text.specs.Lines.{spaced}
@@ -7,6 +8,8 @@ use Rattle.nt_line.specs.NameLists.{NameLists}
 use Rattle.nt_expect.specs.declared.expectations.Expectation.{Expectation}
 use Rattle.nt_expect.specs.Expectations.{expectation_row, watched_fits, watched_row}
 use Rattle.nt_ask.specs.declared.answer.Answer.{Answer}
+use Rattle.nt_ask.specs.declared.answer.Cut.{Cut}
+use Rattle.nt_ask.specs.declared.answer.Cut.TheVariants as cut
 use Rattle.nt_ask.specs.declared.answer.Status.{Status}
 use Rattle.nt_ask.specs.declared.answer.Status.TheVariants as exit
 use Rattle.nt_ask.specs.declared.answer.Verdict.{Verdict}
@@ -41,14 +44,16 @@ verdict_lines names number [] vs = []
 verdict_lines names number (e ∷ es) [] = []
 verdict_lines names number (e ∷ es) (v ∷ vs) = verdict_line names number e v ++ verdict_lines names (number + 1) es vs
 
--- how the first line ends, by whether not all states were found
-abbrev pub cut_text : Bool → List ℕ
-cut_text true = codes " cut\n"
-cut_text false = codes "\n"
+-- how the first line ends, by why not all states were found
+abbrev pub cut_text : Option Cut → List ℕ
+cut_text None = codes "\n"
+cut_text (Some cut.States) = codes " cut by states\n"
+cut_text (Some cut.Turns) = codes " cut by turns\n"
+cut_text (Some cut.Memory) = codes " cut by memory\n"
 
 -- the first line: how many states were found, and how many events that lead from a state to a state
 abbrev pub states_line : Answer → List ℕ
-states_line a = codes "states " ++ (decimal a.states ++ (codes " edges " ++ (decimal a.edges ++ cut_text a.is_cut)))
+states_line a = codes "states " ++ (decimal a.states ++ (codes " edges " ++ (decimal a.edges ++ cut_text a.cut)))
 
 -- the whole text, with the expectations numbered from 1
 abbrev pub answer_text : NameLists → List Expectation → Answer → List ℕ

@@ -28,6 +28,17 @@ pub enum Verdict {
     Unknown,
 }
 
+/// Why not all states were found.
+#[derive(Clone, Copy, PartialEq, Eq, Debug)]
+pub enum Cut {
+    /// There are more than a search may find.
+    States,
+    /// On the way to one are as many events as a processor may make.
+    Turns,
+    /// No memory was found.
+    Memory,
+}
+
 /// What a search says of all expectations.
 #[derive(Drop)]
 pub struct Answer {
@@ -35,8 +46,8 @@ pub struct Answer {
     pub states: u32,
     /// How many events were found that lead from a state to a state.
     pub edges: u64,
-    /// Not all states were found.
-    pub is_cut: bool,
+    /// Why not all states were found; None where they were.
+    pub cut: Option<Cut>,
     /// What is said of each expectation, in their order.
     pub verdicts: Vec<Verdict>,
 }
@@ -227,10 +238,15 @@ fn put_lines(
 }
 
 /// How the first line ends.
-fn cut_text(is_cut: bool) -> &'static str
-    ensures { result.now ≡ cut_text is_cut }
+fn cut_text(cut: Option<Cut>) -> &'static str
+    ensures { result.now ≡ cut_text cut }
 {
-    if is_cut { " cut\n" } else { "\n" }
+    match cut {
+        None => "\n",
+        Some(Cut::States) => " cut by states\n",
+        Some(Cut::Turns) => " cut by turns\n",
+        Some(Cut::Memory) => " cut by memory\n",
+    }
 }
 
 /// Adds the first line.
@@ -241,7 +257,7 @@ fn put_states(out: &mut Vec<u8>, answer: &Answer) -> Result<(), AllocError>
     put_digits(out, u64::from(answer.states))?;
     out.extend_from_slice(b" edges ")?;
     put_digits(out, answer.edges)?;
-    out.extend_from_slice(cut_text(answer.is_cut).as_bytes())?;
+    out.extend_from_slice(cut_text(answer.cut).as_bytes())?;
     Ok(())
 }
 

@@ -12,6 +12,6 @@ mod answer;
 mod reading;
 mod words;
 
-pub use answer::{Answer, Status, Verdict, print_answer, verdict_status};
+pub use answer::{Answer, Cut, Status, Verdict, print_answer, verdict_status};
 pub use reading::{AskRefusal, Asked, read_asked};
 pub use words::{Form, LEAST_STATES, MOST_NUMBER, MOST_STATES, USUAL_STATES, form_of};

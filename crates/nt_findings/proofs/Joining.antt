@@ -85,6 +85,8 @@ joined_known s xs others old new a b joined = record { count = joined.length_is 
 pub joined_finished : (q : Question) (wanted : Option ℕ) (others old new : List (Option ℕ)) (f : Finished) →
     AreKnown q.script.now q.expectations.now others → AreJoined others old new → IsFinished q wanted others f → IsFinished q wanted new f
 joined_finished q wanted others old new f known joined h = record {
+  whole = h.whole;
+  counted = h.counted;
   holds = λ whole j d low none.
       let count = known.count in
       h.holds whole j d low (joined.joined j (omega (arith, low, count)) none);

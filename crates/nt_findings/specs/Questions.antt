@@ -1,5 +1,5 @@
 -- What is asked of a script, and what searches answer.
-use Rattle.std.specs.Prelude.{IsTrue, List, None, Option, Some, get_or, not, true, ℕ, ◌*◌, ◌≡◌, ◌≤◌}
+use Rattle.std.specs.Prelude.{IsTrue, List, None, Option, Some, get_or, is_none, not, true, ℕ, ◌*◌, ◌≡◌, ◌≤◌}
 use Rattle.nt_event.specs.declared.limits.TheConstants.{EVENTS, TURNS}
 use Rattle.nt_event.specs.declared.scripts.Script.{Script}
 use Rattle.nt_event.specs.Script.{fits}
@@ -14,7 +14,7 @@ use Rattle.nt_findings.specs.declared.question.Shown.{Shown}
 use Rattle.nt_findings.specs.declared.seeking.Sought.{Sought}
 use Rattle.nt_findings.specs.declared.seeking.Sought.TheVariants as sought
 use Rattle.nt_findings.specs.Known.{AreUnknown, HoldTheOthers, at_places}
-use Rattle.nt_findings.specs.Verdicts.{IsSaid}
+use Rattle.nt_findings.specs.Verdicts.{AreCounted, IsSaid}
 use Rattle.nt_findings.specs.Ways.{GoesRound, IsShownBy}
 
 -- what may be asked: as a search may
@@ -40,8 +40,10 @@ IsShownFor q wanted None = Unit {0}
 IsShownFor q None (Some x) = ⊥
 IsShownFor q (Some place) (Some x) = IsShownOf q place x
 
--- what the search of all states leaves
+-- what the search of all states leaves; where turns show what was wanted, states may not be counted
 pub record IsFinished (q : Question) (wanted : Option ℕ) (fails : List (Option ℕ)) (f : Finished) : Type 0 where
+  pub whole : f.is_whole ≡ is_none f.cut
+  pub counted : wanted ≡ None → AreCounted q.script.now q.limit q.most f.states f.cut
   pub holds : HoldTheOthers q.script.now f.is_whole q.expectations.now fails
   pub ends : IsSaid q.script.now (not f.is_whole) AlwaysEnds f.ends
   pub shown : IsShownFor q wanted f.shown

@@ -1,17 +1,24 @@
 -- What is said of expectations, and when that is so.
-use Rattle.std.specs.Prelude.{Bool, List, None, Option, Some, false, get_or, length, true, ℕ, ◌<◌, ◌≡◌, ◌≤◌}
+use Rattle.std.specs.Prelude.{Bool, List, None, Option, Some, [], false, get_or, is_some, length, true, ℕ, ◌<◌, ◌≡◌}
+use Rattle.std.specs.Prelude.{◌≤◌}
 use Rattle.nt_event.specs.declared.events.Event.{Event}
 use Rattle.nt_event.specs.declared.scripts.Script.{Script}
 use Rattle.nt_event.specs.Step.{IsRun}
-use Rattle.nt_alike.specs.Free.{LooksAreShort}
+use Rattle.nt_alike.specs.Free.{IsFreeRun, LooksAreShort}
 use Rattle.nt_alike.specs.Lists.{Among}
 use Rattle.nt_ask.specs.declared.answer.Answer.{Answer}
+use Rattle.nt_ask.specs.declared.answer.Cut.{Cut}
+use Rattle.nt_ask.specs.declared.answer.Cut.TheVariants as cut
 use Rattle.nt_ask.specs.declared.answer.Verdict.{Verdict}
 use Rattle.nt_ask.specs.declared.answer.Verdict.TheVariants as said
 use Rattle.nt_expect.specs.declared.expectations.Expectation.{Expectation}
 use Rattle.nt_expect.specs.declared.expectations.Expectation.TheVariants.{AlwaysEnds, Never}
+use Rattle.nt_search.specs.declared.found.End.{End}
+use Rattle.nt_search.specs.declared.found.End.TheVariants.{Stopped, Whole}
+use Rattle.nt_search.specs.declared.stop.Stop.{Stop}
+use Rattle.nt_search.specs.declared.stop.Stop.TheVariants.{NoMemory, States, Turns}
 use Rattle.nt_search.specs.Failures.{FailsAt}
-use Rattle.nt_verdict.specs.Closed.{watched_by}
+use Rattle.nt_verdict.specs.Closed.{IsClosed, watched_by}
 use Rattle.nt_verdict.specs.Fails.{Fails}
 
 -- no run of the script has more events, under any schedule and any turn limit
@@ -50,9 +57,26 @@ pub record AreSaid (s : Script) (is_cut : Bool) (xs : List Expectation) (vs : Li
   pub count : length vs ≡ length xs
   pub each : (j : ℕ) (d : Expectation) (v : Verdict) → j < length xs → IsSaid s is_cut (get_or xs j d) (get_or vs j v)
 
--- an answer says of each of the expectations what is so
-abbrev pub IsAnswer : Script → List Expectation → Answer → Type 0
-IsAnswer s xs a = AreSaid s a.is_cut xs a.verdicts.items
+-- why not all states were found, where they may be so many, and on the way to one a processor may make so many events
+abbrev pub HasCut : ℕ → ℕ → List (List Event) → Cut → Type 0
+HasCut limit most all cut.States = length all ≡ most
+HasCut limit most all cut.Turns = (n : ℕ) × (n < length all) × (limit ≤ length (get_or all n []))
+HasCut limit most all cut.Memory = Unit {0}
+
+-- So many states were found: each is a history that some schedule may leave, and they are no more than they may be.
+-- Where the search was not cut, each run is like one of them; where it was, it had this cause.
+pub record AreCounted (s : Script) (limit most states : ℕ) (by : Option Cut) : Type 0 where
+  pub all : List (List Event)
+  pub count : length all ≡ states
+  pub few : states ≤ most
+  pub runs : (n : ℕ) → n < length all → IsFreeRun s (get_or all n [])
+  pub closed : by ≡ None → IsClosed s [] all
+  pub cause : (c : Cut) → by ≡ Some c → HasCut limit most all c
+
+-- an answer says of each of the expectations what is so, and counts the states
+pub record IsAnswer (s : Script) (limit most : ℕ) (xs : List Expectation) (a : Answer) : Type 0 where
+  pub said : AreSaid s (is_some a.cut) xs a.verdicts.items
+  pub counted : AreCounted s limit most a.states a.cut
 
 -- ---- what a search tells
 
@@ -65,3 +89,14 @@ TellsOf s whole x None = whole ≡ true → (x ≡ AlwaysEnds → ⊥) → Fails
 abbrev pub TellsOfAll : Script → Bool → List Expectation → List (Option ℕ) → Type 0
 TellsOfAll s whole xs fails =
     (j : ℕ) (d : Expectation) → j < length xs → TellsOf s whole (get_or xs j d) (get_or fails j None)
+
+-- ---- why a search was cut
+
+abbrev pub cut_of : Stop → Cut
+cut_of States = cut.States
+cut_of Turns = cut.Turns
+cut_of NoMemory = cut.Memory
+
+abbrev pub cut_by : End → Option Cut
+cut_by (Whole depths) = None
+cut_by (Stopped stop) = Some (cut_of stop)

@@ -13,13 +13,13 @@ ghost use Rattle.nt_verdict.specs.Closed.{watched_by};
 ghost use Rattle.nt_verdict.specs.Fails.{Fails};
 ghost use Rattle.nt_findings.specs.declared.spoken.Spoken.{Spoken as TheSpoken};
 ghost use Rattle.nt_findings.specs.Spoken.{IsSpoken};
-ghost use Rattle.nt_findings.specs.Verdicts.{AreSaid, IsSaid, TellsOf, TellsOfAll};
+ghost use Rattle.nt_findings.specs.Verdicts.{AreSaid, IsSaid, TellsOf, TellsOfAll, cut_by};
 
 use crate::spoken::Spoken;
-use nt_ask::Verdict;
+use nt_ask::{Cut, Verdict};
 use nt_expect::Expectation;
 use nt_rounds::Depths;
-use nt_search::{End, Searched, States};
+use nt_search::{End, Searched, States, Stop};
 use std::alloc::{AllocError, Global};
 
 /// Whether the search found all states.
@@ -42,8 +42,29 @@ fn first_of(depths: &[u32]) -> u32
     }
 }
 
+/// Why a search that ended so was cut.
+pub(crate) fn cut_by(end: &End) -> Option<Cut>
+    ensures { result ≡ cut_by end.now }
+{
+    match end {
+        End::Whole(_) => None,
+        End::Stopped(Stop::States) => Some(Cut::States),
+        End::Stopped(Stop::Turns) => Some(Cut::Turns),
+        End::Stopped(Stop::NoMemory) => Some(Cut::Memory),
+    }
+}
+
+/// A count of no more than this as a number of 32 bits.
+pub(crate) fn count_within(len: usize, most: u32) -> u32
+    requires { len ≤ most }
+    ensures { result ≡ len }
+{
+    let _most = most;
+    len as u32
+}
+
 /// A count as a number of 32 bits, or the greatest one.
-pub(crate) fn count_of(len: usize) -> u32 {
+fn count_of(len: usize) -> u32 {
     match u32::try_from(len) {
         Ok(count) => count,
         Err(_) => u32::MAX,

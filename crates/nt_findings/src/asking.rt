@@ -55,7 +55,8 @@ impl<'a> Question<'a> {
         requires question { IsQuestion self.now }
         requires spoken { All (IsSpoken expectations.now) spoken.now }
         requires all { self.now.expectations.now ≡ all_with expectations.now spoken.now }
-        ensures { IfOk result (IsAnswer self.now.script.now expectations.now) }
+        ensures { IfOk result (IsAnswer self.now.script.now self.now.limit self.now.most
+            expectations.now) }
     {
         let mut fails = none_known(alloc, self.expectations.len())?;
         let finished = self.settle(alloc, &mut fails, None)?;
@@ -64,14 +65,15 @@ impl<'a> Question<'a> {
         Ok(Answer {
             states: finished.states,
             edges: finished.edges,
-            is_cut: !finished.is_whole,
+            cut: finished.cut,
             verdicts: said_of(alloc, script, expectations, spoken, known, &finished)?,
         })
     }
 }
 
 /// What is said of these expectations of the script's runs. Each search finds at most so many
-/// states; the numbers of states and edges are those of the last one, of all states.
+/// states; the numbers of states and edges are those of the last one, of all states, and so is why
+/// it was cut.
 ///
 /// The script and the expectations fit. On the way to a state each processor makes fewer events
 /// than `limit`, which is 1 to 20,000, and at most 160,000 in all processors together. An error is
@@ -88,7 +90,7 @@ pub fn ask(
     requires turns { (1 ≤ limit) × (limit ≤ TURNS) }
     requires all { script.now.cpus * limit ≤ EVENTS }
     requires most { 1 ≤ most }
-    ensures { IfOk result (IsAnswer script.now expectations.now) }
+    ensures { IfOk result (IsAnswer script.now limit most expectations.now) }
 {
     let spoken = spoken_of(alloc, expectations)?;
     let all = with_events(alloc, expectations, spoken.as_slice())?;

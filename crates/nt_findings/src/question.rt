@@ -1,7 +1,7 @@
 //! What is asked of a script, and the searches that answer it.
 ghost use Rattle.std.specs.Option.{option_to_list};
 ghost use Rattle.std.specs.Prelude.{◌≡◌, ◌<◌, ◌++◌, IfOk, IfSome, List, None, OnOk, Some, get_or};
-ghost use Rattle.std.specs.Prelude.{Option, false, length, not, true, ℕ};
+ghost use Rattle.std.specs.Prelude.{◌≤◌, false, is_none, length, not, ℕ};
 ghost use Rattle.nt_event.specs.declared.events.Event.{Event as TheEvent};
 ghost use Rattle.nt_event.specs.declared.scripts.Script.{Script as TheScript};
 ghost use Rattle.nt_expect.specs.declared.expectations.Expectation.{Expectation as Expected};
@@ -10,15 +10,14 @@ ghost use Rattle.nt_search.specs.Ends.{TellsOfEnds, is_whole};
 ghost use Rattle.nt_search.specs.Failures.{AreNoted, IsFailure};
 ghost use Rattle.nt_search.specs.Searches.{IsShownIn};
 ghost use Rattle.nt_search.specs.Ways.{AreWays};
-ghost use Rattle.nt_findings.specs.declared.question.Question.{Question as TheQuestion};
 ghost use Rattle.nt_findings.specs.Known.{AreKnown, at_places};
 ghost use Rattle.nt_findings.specs.Questions.{AreOpen, IsFinished, IsQuestion, IsShownFor};
-ghost use Rattle.nt_findings.specs.Verdicts.{IsSaid};
+ghost use Rattle.nt_findings.specs.Verdicts.{IsSaid, cut_by};
 ghost use Rattle.nt_findings.specs.Ways.{IsShownBy};
 
-use crate::answering::{count_of, is_whole, of_ends};
+use crate::answering::{count_within, cut_by, is_whole, of_ends};
 use crate::unknown::{at_places, has_known, none_known, note, note_others, places_of};
-use nt_ask::Verdict;
+use nt_ask::{Cut, Verdict};
 use nt_event::{Script, Turn};
 use nt_expect::Expectation;
 use nt_search::{Failure, Found, Hunted, Searched, States, hunt, search};
@@ -78,6 +77,8 @@ pub(crate) struct Finished {
     pub(crate) edges: u64,
     /// All states were searched.
     pub(crate) is_whole: bool,
+    /// Why not, where they were not.
+    pub(crate) cut: Option<Cut>,
     /// What is said of `always ends`.
     pub(crate) ends: Verdict,
     /// Turns that show it of the expectation that is wanted.
@@ -85,36 +86,17 @@ pub(crate) struct Finished {
 }
 
 impl Finished {
-    /// What is left where a hunt showed it, and not all states were searched.
-    fn of(shown: Option<Shown>) -> Finished
-        ensures whole { result.is_whole ≡ false }
-        ensures ends { (s : TheScript) → IsSaid s true AlwaysEnds result.ends }
-        ensures shown { result.shown ≡ shown }
+    /// The same, with these turns in place of its own.
+    fn with_turns(self, shown: Shown) -> Finished
+        ensures { result ≡ record self { shown = Some shown } }
     {
-        Finished {
-            states: 0,
-            edges: 0,
-            is_whole: false,
-            ends: Verdict::Unknown,
-            shown,
-        }
-    }
-
-    /// The same, with these turns in place of its own, if there are some.
-    fn shown_by(self, shown: Option<Shown>) -> Finished
-        ensures { (q : TheQuestion) (wanted : Option ℕ) (fails : List (Option ℕ)) →
-            IsFinished q wanted fails self → IsShownFor q wanted shown →
-            IsFinished q wanted fails result }
-    {
-        if shown.is_none() {
-            return self;
-        }
         Finished {
             states: self.states,
             edges: self.edges,
             is_whole: self.is_whole,
+            cut: self.cut,
             ends: self.ends,
-            shown,
+            shown: Some(shown),
         }
     }
 }
@@ -329,14 +311,17 @@ impl<'a> Question<'a> {
             searched.now }
         requires ends { TellsOfEnds self.now.script.now searched.now.end }
         ensures whole { IfOk result (λ f. f.is_whole ≡ is_whole searched.now.end) }
+        ensures cut { IfOk result (λ f. f.cut ≡ cut_by searched.now.end) }
+        ensures states { IfOk result (λ f. f.states ≡ length searched.now.found.states.ways) }
         ensures ends { IfOk result
             (λ f. IsSaid self.now.script.now (not f.is_whole) AlwaysEnds f.ends) }
         ensures shown { IfOk result (λ f. IsShownFor self.now wanted f.shown) }
     {
         Ok(Finished {
-            states: count_of(searched.found.states.len()),
+            states: count_within(searched.found.states.len(), self.most),
             edges: searched.found.edges,
             is_whole: is_whole(&searched.end),
+            cut: cut_by(&searched.end),
             ends: of_ends(alloc, searched)?,
             shown: self.shown_in(alloc, places, &searched.found, wanted)?,
         })
@@ -385,6 +370,7 @@ impl<'a> Question<'a> {
     /// The same of searches that find few states.
     pub(crate) fn few(&self) -> Question<'a>
         ensures same { result ≡ record self.now { most = result.most } }
+        ensures less { result.most ≤ self.now.most }
         ensures question { IsQuestion self.now → IsQuestion result }
     {
         Question {
@@ -437,26 +423,33 @@ impl<'a> Question<'a> {
     {
         let shown = self.hunt_again(alloc, fails, wanted, &few, known)?;
         note_others(known, fails);
-        Ok(few.shown_by(shown))
+        match shown {
+            Some(shown) => Ok(few.with_turns(shown)),
+            None => Ok(few),
+        }
     }
 
-    /// What hunts and the search of all states leave.
+    /// What hunts leave, and the search of all states. The search of few left this, and found not
+    /// all.
     fn settle_all(
         &self,
         alloc: Global,
         fails: &mut Vec<Option<u32>>,
         wanted: Option<usize>,
+        few: Finished,
     ) -> Result<Finished, AllocError>
         requires question { IsQuestion self.now }
         requires known { AreKnown self.now.script.now self.now.expectations.now fails.old.items }
+        requires whole { few.is_whole ≡ is_none few.cut }
+        requires part { few.is_whole ≡ false }
+        requires ends { IsSaid self.now.script.now (not few.is_whole) AlwaysEnds few.ends }
         ensures known { AreKnown self.now.script.now self.now.expectations.now fails.new.items }
         ensures finished { IfOk result (IsFinished self.now wanted fails.new.items) }
     {
-        let shown = self.hunt(alloc, fails, wanted)?;
-        if shown.is_some() {
-            return Ok(Finished::of(shown));
+        match self.hunt(alloc, fails, wanted)? {
+            Some(shown) => Ok(few.with_turns(shown)),
+            None => self.finish(alloc, fails, wanted),
         }
-        self.finish(alloc, fails, wanted)
     }
 
     /// Searches few states. Where these are not all, it hunts, and then searches all. Failures are
@@ -477,7 +470,7 @@ impl<'a> Question<'a> {
         if few.is_whole {
             self.settle_few(alloc, fails, wanted, few, known.as_slice())
         } else {
-            self.settle_all(alloc, fails, wanted)
+            self.settle_all(alloc, fails, wanted, few)
         }
     }
 }

@@ -8,11 +8,12 @@ use Rattle.nt_ask.specs.Answers.{is_failure, is_unknown, verdict_status}
 use Rattle.nt_lab.specs.Outcome.{IsAskReply, IsWell}
 
 -- where it is well with the status of the verdicts, it is replied so
-pub well_replied : (asked : Asked) (vs : List Verdict) (text : List ℕ) → IsWell asked (verdict_status vs) text → IsAskReply asked (verdict_status vs) text
-well_replied asked vs text w = go (list_any is_failure vs) (list_any is_unknown vs) w
+pub well_replied : (asked : Asked) (states : ℕ) (vs : List Verdict) (text : List ℕ) → IsWell asked states (verdict_status vs) text →
+    IsAskReply asked states (verdict_status vs) text
+well_replied asked states vs text w = go (list_any is_failure vs) (list_any is_unknown vs) w
   where
-    go : (a b : Bool) → IsWell asked (if a then exit.Fails else (if b then exit.Unknown else exit.Ok)) text →
-        IsAskReply asked (if a then exit.Fails else (if b then exit.Unknown else exit.Ok)) text
+    go : (a b : Bool) → IsWell asked states (if a then exit.Fails else (if b then exit.Unknown else exit.Ok)) text →
+        IsAskReply asked states (if a then exit.Fails else (if b then exit.Unknown else exit.Ok)) text
     go true b w = w
     go false true w = w
     go false false w = w

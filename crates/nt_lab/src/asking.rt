@@ -5,6 +5,7 @@ ghost use Rattle.nt_event.specs.Script.{fits};
 ghost use Rattle.nt_expect.specs.Expectations.{expectations_fit};
 ghost use Rattle.nt_findings.specs.Verdicts.{IsAnswer};
 ghost use Rattle.nt_script.specs.Sound.{IsSound};
+ghost use Rattle.nt_log.specs.Schedules.{turn_bound};
 ghost use Rattle.nt_lab.specs.Outcome.{IsAskReply, IsReplied};
 ghost use Rattle.nt_lab.specs.Replies.{text_of};
 
@@ -21,7 +22,8 @@ fn answer_of(alloc: Global, asked: &Asked, states: u32) -> Result<Answer, AllocE
     requires fits { IsTrue (fits asked.now.input.script) }
     requires fit { expectations_fit asked.now.input.script asked.now.expectations ≡ true }
     requires states { IsStates states }
-    ensures { IfOk result (IsAnswer asked.now.input.script asked.now.expectations) }
+    ensures { IfOk result (IsAnswer asked.now.input.script
+        (turn_bound asked.now.input.script.cpus) states asked.now.expectations) }
 {
     let limit = turn_bound(asked.input.script.cpus);
     let expectations = asked.expectations.as_slice();
@@ -30,12 +32,14 @@ fn answer_of(alloc: Global, asked: &Asked, states: u32) -> Result<Answer, AllocE
 }
 
 /// What is replied with an answer.
-fn printed(alloc: Global, asked: &Asked, answer: &Answer) -> Reply
+fn printed(alloc: Global, asked: &Asked, states: u32, answer: &Answer) -> Reply
     requires sound { IsSound asked.now.input }
     requires fit { expectations_fit asked.now.input.script asked.now.expectations ≡ true }
-    requires is { IsAnswer asked.now.input.script asked.now.expectations answer.now }
-    ensures { IsAskReply asked.now result.status (text_of result.text) }
+    requires is { IsAnswer asked.now.input.script (turn_bound asked.now.input.script.cpus)
+        states asked.now.expectations answer.now }
+    ensures { IsAskReply asked.now states result.status (text_of result.text) }
 {
+    let _states = states;
     match print_answer(alloc, &asked.input, asked.expectations.as_slice(), answer) {
         Ok(text) => Reply {
             status: verdict_status(answer),
@@ -51,10 +55,10 @@ fn answered(alloc: Global, asked: &Asked, states: u32) -> Reply
     requires fits { IsTrue (fits asked.now.input.script) }
     requires fit { expectations_fit asked.now.input.script asked.now.expectations ≡ true }
     requires states { IsStates states }
-    ensures { IsAskReply asked.now result.status (text_of result.text) }
+    ensures { IsAskReply asked.now states result.status (text_of result.text) }
 {
     match answer_of(alloc, asked, states) {
-        Ok(answer) => printed(alloc, asked, &answer),
+        Ok(answer) => printed(alloc, asked, states, &answer),
         Err(_) => no_memory(),
     }
 }
@@ -64,7 +68,9 @@ fn answered(alloc: Global, asked: &Asked, states: u32) -> Reply
 /// For `ask` a line is written for each expectation: `holds` only where it fails in no run, under
 /// any schedule and any turn limit, with an event it speaks of that comes in none; `fails at` only
 /// where it fails in some run; `unknown` only where not all states were searched, and then nothing
-/// holds. The status is `Ok` where all hold, `Fails` where one fails, and else `Unknown`.
+/// holds. Why not all were, the first line says: as many were found as may be, a processor made as
+/// many events on the way to one as it may, or memory was wanting. The status is `Ok` where all
+/// hold, `Fails` where one fails, and else `Unknown`.
 ///
 /// For `witness` a schedule is written, with `Ok`: its replay is a settled run that begins with
 /// turns that show that the expectation fails, and its text is read again as this schedule. Else a

@@ -34,6 +34,7 @@ fn scheduled(
     requires show { Show asked.now.input.script (expected asked.now number) turns.now }
     requires lead { (h : List TheEvent) × Lead asked.now.input.script turns.now [] h ×
         IsWitness asked.now.input.script h schedule.now }
+    requires number { number ≤ length asked.now.expectations }
     ensures { IsWitnessReply asked.now number result.status (text_of result.text) }
 {
     let _number = number;
@@ -53,6 +54,7 @@ fn shown(alloc: Global, asked: &Asked, number: u32, turns: &[Turn], endless: boo
     requires sound { IsSound asked.now.input }
     requires fits { IsTrue (fits asked.now.input.script) }
     requires show { Show asked.now.input.script (expected asked.now number) turns.now }
+    requires number { number ≤ length asked.now.expectations }
     ensures { IsWitnessReply asked.now number result.status (text_of result.text) }
 {
     match witness(alloc, &asked.input.script, turns, endless) {
@@ -67,6 +69,7 @@ fn replied_by(alloc: Global, asked: &Asked, number: u32, sought: &Sought) -> Rep
     requires sound { IsSound asked.now.input }
     requires fits { IsTrue (fits asked.now.input.script) }
     requires sought { IsSought asked.now.input.script (expected asked.now number) sought.now }
+    requires number { number ≤ length asked.now.expectations }
     ensures { IsWitnessReply asked.now number result.status (text_of result.text) }
 {
     match sought {

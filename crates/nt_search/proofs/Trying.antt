@@ -166,8 +166,8 @@ module _ (x : Plan) (all : List (List Event)) (found : Found) (h : AreFound x al
 
     -- where the search stops before the state is noted, or at the graph, what was judged is noted still
     pub stopped : (mid new : Found) (stop : Stop) → mid.states ≡ found.states → mid.failures.items ≡ failures → IsHalfLed key way x.most stop mid new →
-        IsStopped x all stop new
-    stopped mid new stop states failed half = go half.states
+        length new.states.ways ≤ x.most → IsStopped x all stop new
+    stopped mid new stop states failed half few = go half.states
       where
         noted_is : new.failures.items ≡ failures
         noted_is = half.failures ∙ failed
@@ -181,6 +181,7 @@ module _ (x : Plan) (all : List (List Event)) (found : Found) (h : AreFound x al
         with more are = record {
           more = more;
           states = are;
+          few = few;
           noted = subst (AreNoted s (all ++ more) x.expectations.now) (sym noted_is) (noted_in more);
           cause = cause (all ++ more) new.states stop are half.cause;
         }

@@ -159,6 +159,7 @@ pub stopped_more : (x : Plan) (all more : List (List Event)) (stop : Stop) (f : 
 stopped_more x all more stop f h = record {
   more = more ++ h.more;
   states = subst (λ (hs : List (List Event)). AreStates x.script.now x.watched.items hs f.states) assoc h.states;
+  few = h.few;
   noted = subst (λ (hs : List (List Event)). AreNoted x.script.now hs x.expectations.now f.failures.items) assoc h.noted;
   cause = subst (λ (hs : List (List Event)). HasCause x.limit x.most hs stop) assoc h.cause;
 }
@@ -168,17 +169,18 @@ stopped_more x all more stop f h = record {
 
 -- what was found is still so where memory is wanting
 pub starved_by : (x : Plan) (all : List (List Event)) (f : Found) → AreStates x.script.now x.watched.items all f.states →
-    AreNoted x.script.now all x.expectations.now f.failures.items → IsStopped x all NoMemory f
-starved_by x all f states noted = record {
+    length f.states.ways ≤ x.most → AreNoted x.script.now all x.expectations.now f.failures.items → IsStopped x all NoMemory f
+starved_by x all f states few noted = record {
   more = [];
   states = subst (λ (hs : List (List Event)). AreStates x.script.now x.watched.items hs f.states) (sym (append-nil all)) states;
+  few = few;
   noted = subst (λ (hs : List (List Event)). AreNoted x.script.now hs x.expectations.now f.failures.items) (sym (append-nil all)) noted;
   cause = tt;
 }
 
 -- what a search found so far is a sound result of one that stopped out of memory
 pub starved : (x : Plan) (all : List (List Event)) (f : Found) → AreFound x all f → IsStopped x all NoMemory f
-starved x all f h = starved_by x all f h.states h.noted
+starved x all f h = starved_by x all f h.states h.few h.noted
 
 -- and so it is where there is no machine in a state
 pub way_stopped : (x : Plan) (all : List (List Event)) (stop : Stop) (f : Found) → IsWayStop x all stop → AreFound x all f → IsStopped x all stop f
@@ -187,6 +189,7 @@ way_stopped x all NoMemory f why h = starved x all f h
 way_stopped x all Turns f why h = record {
   more = [];
   states = subst (λ (hs : List (List Event)). AreStates x.script.now x.watched.items hs f.states) (sym (append-nil all)) h.states;
+  few = h.few;
   noted = subst (λ (hs : List (List Event)). AreNoted x.script.now hs x.expectations.now f.failures.items) (sym (append-nil all)) h.noted;
   cause = subst (λ (hs : List (List Event)). (n : ℕ) × (n < length hs) × (x.limit ≤ length (get_or hs n []))) (sym (append-nil all)) why;
 }

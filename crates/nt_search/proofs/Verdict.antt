@@ -2,7 +2,8 @@
 use Rattle.std.proofs.Common.{arith, inl, inr, subst, sym, ◌∙◌}
 use Rattle.std.proofs.lemmas.List.{get_or_default}
 use Rattle.std.specs.List.{flat_map}
-use Rattle.std.specs.Prelude.{Err, IfErr, List, None, Ok, OnOk, Option, Result, Some, [], get_or, length, refl, suc, true, zero, ℕ, ◌++◌, ◌<◌, ◌∷◌, ◌≡◌, ◌⊎◌}
+use Rattle.std.specs.Prelude.{Err, IfErr, List, None, Ok, OnOk, Option, Result, Some, [], false, get_or, length, refl, suc, true, zero, ℕ, ◌++◌, ◌<◌, ◌∷◌, ◌≡◌}
+use Rattle.std.specs.Prelude.{◌⊎◌}
 use Rattle.nt_event.specs.declared.events.Event.{Event}
 use Rattle.nt_event.specs.declared.events.Turn.{Turn}
 use Rattle.nt_event.specs.declared.scripts.Script.{Script}
@@ -19,7 +20,7 @@ use Rattle.nt_expect.specs.Meaning.{ShowsAt, ShowsAtEnd}
 use Rattle.nt_rounds.specs.declared.outcome.Depths.{Depths}
 use Rattle.nt_rounds.specs.declared.outcome.Depths.TheVariants.{Finite, Round}
 use Rattle.nt_rounds.specs.Depths.{IsInside}
-use Rattle.nt_verdict.specs.Closed.{AlikeWatching, AreWatched, watched_by}
+use Rattle.nt_verdict.specs.Closed.{AlikeWatching, AreWatched, IsClosed, watched_by}
 use Rattle.nt_verdict.specs.Fails.{Fails, IsShown}
 use Rattle.nt_verdict.proofs.Rounds.{shown_fails}
 use Rattle.nt_verdict.proofs.States.{is_quiet_at}
@@ -119,6 +120,15 @@ fails x all f states noted j d g low is =
     subst (FailsAt x.script.now (get_or x.expectations.now j d)) (sym one.at)
     (shows_fail x.script.now (get_or x.expectations.now j d) (get_or all g.state []) g.turn run one.shows)
 
+-- where all states were found, their histories are a closed list
+closed_list : (x : Plan) (f : Found) (h : IsSearched x f) → IsClosed x.script.now x.watched.items h.all
+closed_list x f h =
+    let s = x.script.now in
+    let ways = h.found.states.ways in
+    let count : length f.states.ways ≡ length h.all = ways.count in
+    let first = subst (AlikeWatching s x.watched.items []) (sym ways.first) (alike_self s [], came_self x.watched.items []) in
+    closed s x.watched.items h.all f.graph.closed ways.some first (λ n l. h.tried n (omega (arith, l, count)))
+
 -- where all states were found, each other one but `always ends` holds
 pub holds : (x : Plan) → IsPlan x → (f : Found) → IsSearched x f → EachUnnoted (λ e. (e ≡ AlwaysEnds → ⊥) → Fails x.script.now e → ⊥) x.expectations.now
     f.failures.items
@@ -129,8 +139,7 @@ holds x plan f h j d low unnoted ends failing =
     let count : length f.states.ways ≡ length h.all = ways.count in
     let each = h.keeps j d low unnoted in
     let keeps = each_at (Keeps s e) h.all [] (λ n l. each n (omega (arith, l, count))) in
-    let first = subst (AlikeWatching s x.watched.items []) (sym ways.first) (alike_self s [], came_self x.watched.items []) in
-    let closed = closed s x.watched.items h.all f.graph.closed ways.some first (λ n l. h.tried n (omega (arith, l, count))) in
+    let closed = closed_list x f h in
     let fit = named_at s x.expectations.now j e plan.named low (get_or_default x.expectations.now j d e low) in
     let are : AreWatched x.watched.items e = subst (λ (ws : List Watched). AreWatched ws e) (sym plan.watched)
     (each_among (flat_map watched_by x.expectations.now) (watched_by e) (watched_among x.expectations.now j d low)) in
@@ -173,6 +182,20 @@ module _ (x : Plan) (f : Found) where
       AreStates x.script.now (flat_map watched_by x.expectations.now) all f.states
   states_of watched all are = subst (λ (ws : List Watched). AreStates x.script.now ws all f.states) watched are
 
+  -- each of their histories is a free run
+  runs_of : (all : List (List Event)) → AreStates x.script.now x.watched.items all f.states → (n : ℕ) → n < length all →
+      IsFreeRun x.script.now (get_or all n [])
+  runs_of all are = free_at x.script.now x.watched.items all f.states.parts f.states.keys are.keys
+
+  -- and those of a search at its end are a closed list for what the expectations watch for
+  closed_of : x.watched.items ≡ flat_map watched_by x.expectations.now → (h : IsSearched x f) →
+      IsClosed x.script.now (flat_map watched_by x.expectations.now) h.all
+  closed_of watched h = subst (λ (ws : List Watched). IsClosed x.script.now ws h.all) watched (closed_list x f h)
+
+  -- a part is not the whole
+  part_whole : false ≡ true → ⊥
+  part_whole q = cc
+
   -- the states, failures, round and cause of stopping that a search gives its caller are right
   pub shown : x.watched.items ≡ flat_map watched_by x.expectations.now → (r : Expanded) (end : End) → OnOk r (IsSearched x f) →
       IfErr r (λ stop. IsStopped x [] stop f) → IsEndOf r f.graph end →
@@ -181,8 +204,11 @@ module _ (x : Plan) (f : Found) where
     all = searched.all;
     states = states_of watched searched.all searched.found.states;
     ways = searched.found.states.ways;
+    few = searched.found.few;
+    runs = runs_of searched.all searched.found.states;
     noted = searched.found.noted;
     round = goes depths is;
+    closed = λ q. closed_of watched searched;
     cause = λ stop q. absurd (none_stop stop q);
   }
     where
@@ -193,8 +219,11 @@ module _ (x : Plan) (f : Found) where
     all = searched.all;
     states = states_of watched searched.all searched.found.states;
     ways = searched.found.states.ways;
+    few = searched.found.few;
+    runs = runs_of searched.all searched.found.states;
     noted = searched.found.noted;
     round = tt;
+    closed = λ q. absurd (part_whole q);
     cause = λ stop q. subst (HasCause x.limit x.most searched.all) (sym is ∙ given_stop early stop q) tt;
   }
   shown watched (Err why) (Whole depths) searched stopped is = absurd is
@@ -202,8 +231,11 @@ module _ (x : Plan) (f : Found) where
     all = stopped.more;
     states = states_of watched stopped.more stopped.states;
     ways = stopped.states.ways;
+    few = stopped.few;
+    runs = runs_of stopped.more stopped.states;
     noted = stopped.noted;
     round = tt;
+    closed = λ q. absurd (part_whole q);
     cause = λ stop q. subst (HasCause x.limit x.most stopped.more) (sym is ∙ given_stop early stop q) stopped.cause;
   }
 

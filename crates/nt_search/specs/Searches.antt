@@ -9,13 +9,13 @@ use Rattle.nt_event.specs.declared.scripts.Script.{Script}
 use Rattle.nt_event.specs.Script.{fits}
 use Rattle.nt_alike.specs.Alike.{Alike}
 use Rattle.nt_alike.specs.Ends.{is_quiet}
-use Rattle.nt_alike.specs.Free.{MayCome}
+use Rattle.nt_alike.specs.Free.{IsFreeRun, MayCome}
 use Rattle.nt_ahead.specs.Turns.{HasAll}
 use Rattle.nt_expect.specs.declared.expectations.Expectation.{Expectation}
 use Rattle.nt_expect.specs.Expectations.{expectations_fit}
 use Rattle.nt_expect.specs.Meaning.{ShowsAtEnd}
 use Rattle.nt_rounds.specs.declared.outcome.Depths.TheVariants.{Finite, Round}
-use Rattle.nt_verdict.specs.Closed.{watched_by}
+use Rattle.nt_verdict.specs.Closed.{IsClosed, watched_by}
 use Rattle.nt_search.specs.declared.failures.Failure.{Failure}
 use Rattle.nt_search.specs.declared.found.End.{End}
 use Rattle.nt_search.specs.declared.found.End.TheVariants.{Stopped, Whole}
@@ -25,7 +25,7 @@ use Rattle.nt_search.specs.declared.machine.Machine.{Machine}
 use Rattle.nt_search.specs.declared.plan.Plan.{Plan}
 use Rattle.nt_search.specs.declared.stop.Stop.{Stop}
 use Rattle.nt_search.specs.declared.stop.Stop.TheVariants.{NoMemory, States, Turns}
-use Rattle.nt_search.specs.Ends.{stop_of}
+use Rattle.nt_search.specs.Ends.{is_whole, stop_of}
 use Rattle.nt_search.specs.Failures.{AreNoted, EachUnnoted}
 use Rattle.nt_search.specs.Machines.{Stands}
 use Rattle.nt_search.specs.States.{AreStates}
@@ -138,6 +138,7 @@ HasCause limit most all NoMemory = Unit {0}
 pub record IsStopped (x : Plan) (all : List (List Event)) (stop : Stop) (f : Found) : Type 0 where
   pub more : List (List Event)
   pub states : AreStates x.script.now x.watched.items (all ++ more) f.states
+  pub few : length f.states.ways ≤ x.most
   pub noted : AreNoted x.script.now (all ++ more) x.expectations.now f.failures.items
   pub cause : HasCause x.limit x.most (all ++ more) stop
 
@@ -160,12 +161,16 @@ GoesRound s all (Whole (Finite depths)) = Unit {0}
 GoesRound s all (Whole (Round states)) = AreRound s all states.items
 GoesRound s all (Stopped stop) = Unit {0}
 
--- What a caller gets: the states are those of these histories, to which the ways lead, the failures show in them, the
--- states of a round lead round, and where the search ended early it had a cause.
+-- What a caller gets: the states are those of these histories, free runs to which the ways lead, and no more than they
+-- may be; the failures show in them, the states of a round lead round; and where the search ended early it had a cause,
+-- else however a run goes on, it is like one of these.
 pub record IsShownIn (s : Script) (xs : List Expectation) (limit most : ℕ) (x : Searched) : Type 0 where
   pub all : List (List Event)
   pub states : AreStates s (flat_map watched_by xs) all x.found.states
   pub ways : AreWays s all x.found.states.ways
+  pub few : length x.found.states.ways ≤ most
+  pub runs : (n : ℕ) → n < length all → IsFreeRun s (get_or all n [])
   pub noted : AreNoted s all xs x.found.failures.items
   pub round : GoesRound s all x.end
+  pub closed : is_whole x.end ≡ true → IsClosed s (flat_map watched_by xs) all
   pub cause : (stop : Stop) → stop_of x.end ≡ Some stop → HasCause limit most all stop

@@ -7,7 +7,7 @@ ghost use Rattle.nt_text.specs.declared.lines.TheConstants.{INPUT_LIMIT};
 ghost use Rattle.nt_ask.specs.Answers.{VerdictFits};
 
 use nt_ask::{
-    Answer, AskRefusal, Asked, Form, Status, Verdict, form_of, print_answer, read_asked,
+    Answer, AskRefusal, Asked, Cut, Form, Status, Verdict, form_of, print_answer, read_asked,
     verdict_status,
 };
 use nt_expect::{ExpectKind, Watched};
@@ -172,13 +172,13 @@ fn answered(alloc: Global, bytes: &[u8], answer: &Answer) -> Result<Vec<u8>, All
 }
 
 /// An answer with these verdicts.
-fn answer_of(alloc: Global, is_cut: bool, verdicts: &[Verdict]) -> Result<Answer, AllocError>
+fn answer_of(alloc: Global, cut: Option<Cut>, verdicts: &[Verdict]) -> Result<Answer, AllocError>
     ensures { IfOk result (λ answer. answer.verdicts.items ≡ verdicts.now) }
 {
     Ok(Answer {
         states: 14,
         edges: 13,
-        is_cut,
+        cut,
         verdicts: verdicts.to_vec(alloc)?,
     })
 }
@@ -187,7 +187,7 @@ fn answer_of(alloc: Global, is_cut: bool, verdicts: &[Verdict]) -> Result<Answer
 /// this text.
 fn is_answer(
     alloc: Global,
-    is_cut: bool,
+    cut: Option<Cut>,
     verdicts: &[Verdict],
     status: u8,
     text: &str,
@@ -197,7 +197,7 @@ fn is_answer(
     if ASKED.len() > INPUT_LIMIT {
         return Ok(false);
     }
-    let answer = answer_of(alloc, is_cut, verdicts)?;
+    let answer = answer_of(alloc, cut, verdicts)?;
     let found = answered(alloc, ASKED.as_bytes(), &answer)?;
     Ok(verdict_status(&answer).number() == status && found.as_slice() == text.as_bytes())
 }
@@ -211,15 +211,16 @@ fn each_expectation_has_a_line(rt: HostRuntime) -> Result<(), Fail> {
     ];
     let text = "states 14 edges 13\n1 never begin dpc work before note 1: holds\n\
         2 never note 99 after note 1: holds, note 1 never comes\n3 always note 7: holds\n";
-    assert!(rt; is_answer(rt.alloc(), false, &verdicts, 0, text)?);
+    assert!(rt; is_answer(rt.alloc(), None, &verdicts, 0, text)?);
     let verdicts = [Verdict::HoldsWithin(9), Verdict::Unknown, Verdict::Holds];
-    let text = "states 14 edges 13 cut\n1 never begin dpc work before note 1: holds within 9\n\
+    let text = "states 14 edges 13 cut by states\n\
+        1 never begin dpc work before note 1: holds within 9\n\
         2 never note 99 after note 1: unknown\n3 always note 7: holds\n";
-    assert!(rt; is_answer(rt.alloc(), true, &verdicts, 10, text)?);
+    assert!(rt; is_answer(rt.alloc(), Some(Cut::States), &verdicts, 10, text)?);
     let verdicts = [Verdict::Unknown, Verdict::Holds, Verdict::FailsAt(4)];
-    let text = "states 14 edges 13\n1 never begin dpc work before note 1: unknown\n\
+    let text = "states 14 edges 13 cut by turns\n1 never begin dpc work before note 1: unknown\n\
         2 never note 99 after note 1: holds\n3 always note 7: fails at 4\n";
-    assert!(rt; is_answer(rt.alloc(), false, &verdicts, 9, text)?);
+    assert!(rt; is_answer(rt.alloc(), Some(Cut::Turns), &verdicts, 9, text)?);
     Ok(())
 }
 

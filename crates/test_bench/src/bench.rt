@@ -204,7 +204,8 @@ fn more_states_than_may_be_are_cut(rt: HostRuntime) -> Result<(), Fail> {
             ENDLESS_CLOCK,
             "expect\nalways ends\nnever note 1\ndone\n",
             Status::Unknown,
-            "states 1000 edges 1000 cut\n1 always ends: unknown\n2 never note 1: unknown\n",
+            "states 1000 edges 1000 cut by states\n1 always ends: unknown\n\
+        2 never note 1: unknown\n",
         )?
     );
     Ok(())

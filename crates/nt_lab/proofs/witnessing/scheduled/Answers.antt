@@ -9,6 +9,8 @@ print_schedule-requires-clause-fit c =
 
 pub returns-in-Ok : goal.returns-in-Ok
 returns-in-Ok c =
-    let lead = c.requires.lead in
-    witness_is_written c.args.asked.now c.args.number c.args.schedule.now c.in-Ok.text.items c.requires.sound c.read_looks.ensures
-    (record { turns = c.args.turns.now; show = c.requires.show; history = lead.0; lead = lead.1; replay = lead.2 }) c.in-Ok.ensures
+    let lead = c.requires.lead in (
+      c.requires.number,
+      witness_is_written c.args.asked.now c.args.number c.args.schedule.now c.in-Ok.text.items c.requires.sound c.read_looks.ensures
+          (record { turns = c.args.turns.now; show = c.requires.show; history = lead.0; lead = lead.1; replay = lead.2 }) c.in-Ok.ensures,
+    )

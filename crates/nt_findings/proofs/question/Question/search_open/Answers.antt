@@ -1,6 +1,6 @@
 use Rattle.std.proofs.Common.{refl}
 use Rattle.nt_search.specs.Ends.{is_whole}
-use Rattle.nt_findings.proofs.Finishing.{finished_so}
+use Rattle.nt_findings.proofs.Finishing.{counted_so, finished_so, whole_so}
 use Rattle.nt_findings.proofs.Opened.{open_fit, open_hold, open_known, open_low}
 use Rattle.nt_findings.proofs.question.Question.search_open.Goals as goal
 
@@ -28,4 +28,7 @@ returns-clause-finished c =
     c.as_slice-expectations.result.now c.as_slice-places.result.now c.as_slice.result.now c.in_ok-searched.searched.found.failures.items c.requires.known
     c.requires.left refl c.as_slice-expectations.ensures.value c.as_slice-places.ensures.value c.as_slice.ensures.value
     c.note.ensures (is_whole c.in_ok-searched.searched.end) c.in_ok-searched.ensures.holds)
+    (whole_so c.finished_by-finished.result c.in_ok-searched.searched.end c.finished_by-finished.ensures.whole c.finished_by-finished.ensures.cut)
+    (counted_so c.args.self.now.script.now _ c.args.self.now.limit c.args.self.now.most c.finished_by-finished.result c.in_ok-searched.searched
+    c.in_ok-searched.ensures.shown c.finished_by-finished.ensures.states c.finished_by-finished.ensures.cut)
     c.finished_by-finished.ensures.whole c.finished_by-finished.ensures.ends c.finished_by-finished.ensures.shown

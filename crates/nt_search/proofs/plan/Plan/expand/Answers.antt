@@ -33,7 +33,7 @@ returns-in_err-close-clause-stopped c =
     let are = c.in_ok-try_ahead.ensures.tried all end.found at in
     let f : Found = record c.try_ahead.new.found { graph = c.close.new.self } in
     subst (λ (stop : Stop). IsStopped x all stop f) (sym e.2)
-    (stopped_more x all are.2.more NoMemory f (starved_by x (all ++ are.2.more) f are.2.found.states are.2.found.noted)))
+    (stopped_more x all are.2.more NoMemory f (starved_by x (all ++ are.2.more) f are.2.found.states are.2.found.few are.2.found.noted)))
 
 pub returns-clause-expanded : goal.returns-clause-expanded
 returns-clause-expanded c all h at =

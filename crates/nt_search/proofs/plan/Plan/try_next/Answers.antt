@@ -107,7 +107,8 @@ returns-in_err-lead-clause-stopped c =
     let g = found_grown x all c.args.found.now y h c.in_ok-key.ensures.grown in
     subst (λ (stop : Stop). IsStopped x all stop c.lead.new.self) (sym r.2)
     (stopped x all (record c.args.found.now { states = y }) g c.args.from c.args.machine.now at t n.event n taken _ c.judge_event.new.failures.items
-    c.in_ok-key.key _ c.requires.plan refl refl at.stands.took judged keyed refl refl _ c.lead.new.self _ refl refl c.in_err-lead.ensures.err))
+    c.in_ok-key.key _ c.requires.plan refl refl at.stands.took judged keyed refl refl _ c.lead.new.self _ refl refl c.in_err-lead.ensures.err
+    c.in_err-lead.ensures.few))
 
 pub returns-clause-tried : goal.returns-clause-tried
 returns-clause-tried c all h at next =
