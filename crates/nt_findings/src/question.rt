@@ -31,7 +31,7 @@ const HUNT_STATES: u32 = 10_000;
 
 /// How many states the first search may find. Where there are no more, and no expectation fails,
 /// hunts would take longer than the search.
-const FEW: u32 = 3_000;
+const FEW: u32 = 10_000;
 
 /// What is asked of a script.
 #[derive(Clone, Copy)]
